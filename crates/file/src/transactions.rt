@@ -10,7 +10,8 @@ ghost use Rattle.file.specs.Lengths.{lineLen, headerAfter};
 ghost use Rattle.file.specs.Records.{records, begins, transactions};
 use crate::feed::line_len;
 
-fn begins_header(text: &[u8]) -> bool
+// Whether the first record is a header.
+pub fn begins_header(text: &[u8]) -> bool
     ensures { λ r. ⌜ r ≡ begins 72 (now (text .entry)) ⌝ }
 {
     match text {
