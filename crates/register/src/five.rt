@@ -8,12 +8,13 @@ ghost use Rattle.register.specs.Fives.{held};
 use crate::Register;
 use layout::field::Lookup;
 
-// All registers behind one trait, by their sets: `holds` tells whether the register has the key.
+// All registers behind one trait, by their sets: `holds` tells whether the register has the key. A question changes nothing.
 pub trait Registers {
     ghost holds: { Self → Lookup → List ℕ → Bool };
 
     fn has(&self, which: Lookup, key: &[u8]) -> bool
-        ensures { λ r. ⌜ r ≡ holds (now (self .entry)) which (now (key .entry)) ⌝ };
+        ensures answer { λ r. ⌜ r ≡ holds (now (self .entry)) which (now (key .entry)) ⌝ }
+        ensures unchanged { λ _. ⌜ now (self .exit) ≡ now (self .entry) ⌝ };
 }
 
 // Five registers, each of a make of its own.

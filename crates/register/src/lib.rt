@@ -11,10 +11,11 @@ pub mod joined;
 pub mod key_list;
 pub mod key_text;
 
-// A register's meaning is a set of keys, `keys`: the test whether a key is in it.
+// A register's meaning is a set of keys, `keys`: the test whether a key is in it. A question changes nothing.
 pub trait Register {
     ghost keys: { Self → List ℕ → Bool };
 
     fn has(&self, key: &[u8]) -> bool
-        ensures { λ r. ⌜ r ≡ keys (now (self .entry)) (now (key .entry)) ⌝ };
+        ensures answer { λ r. ⌜ r ≡ keys (now (self .entry)) (now (key .entry)) ⌝ }
+        ensures unchanged { λ _. ⌜ now (self .exit) ≡ now (self .entry) ⌝ };
 }
