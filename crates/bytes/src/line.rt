@@ -41,6 +41,13 @@ impl<'a> Line<'a> {
         self.bytes
     }
 
+    // Whether a pass has shown that the bytes are printable.
+    pub fn is_known_printable(self) -> bool
+        ensures { λ r. ⌜ r ≡ self .entry .printable ⌝ }
+    {
+        self.printable
+    }
+
     pub fn is_printable(self) -> bool
         ensures { λ r. ⌜ r ≡ all isPrintable (now (self .entry .bytes)) ⌝ }
     {

@@ -1,0 +1,6 @@
+// A bulk file's bytes as records and transactions, and its opening.
+pub mod feed;
+pub mod opening;
+pub mod records;
+pub mod tally;
+pub mod transactions;
