@@ -10,6 +10,7 @@ use bytes::line::Line;
 use layout::field::Field;
 use register::five::Registers;
 
+pub mod facts;
 pub mod fault;
 pub mod shape;
 pub mod symbol;
@@ -24,12 +25,20 @@ fn refuse(cause: Cause, field: &Field) -> Result<(), FieldFault>
 }
 
 // A field's own bytes against its row of the layout: first whether it is missing, then its shape, then its register.
-pub fn check_field<R: Registers>(bytes: Line<'_>, field: &Field, registers: &R) -> Result<(), FieldFault>
+pub fn check_field<R: Registers>(
+    bytes: Line<'_>,
+    field: &Field,
+    registers: &R,
+) -> Result<(), FieldFault>
     ensures { λ r. ⌜ r ≡ fieldCheck (R·Registers .holds (now (registers .entry))) (now (field .entry)) (now (bytes .entry .bytes)) ⌝ }
 {
     let kind = field.kind();
     if !is_filler(kind) && is_blank(bytes.bytes()) {
-        return if field.is_required() { refuse(Cause::Missing, field) } else { Ok(()) };
+        return if field.is_required() {
+            refuse(Cause::Missing, field)
+        } else {
+            Ok(())
+        };
     }
     if !is_shaped(kind, bytes) {
         return refuse(Cause::Shape, field);
