@@ -1,0 +1,4 @@
+mod Bits
+mod Order
+mod Search
+mod Texts
