@@ -1,0 +1,4 @@
+pub mod Verdicts
+pub mod Details
+pub mod Headers
+pub mod Checks
