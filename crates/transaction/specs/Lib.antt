@@ -2,3 +2,4 @@ pub mod Verdicts
 pub mod Details
 pub mod Headers
 pub mod Checks
+pub mod Layers

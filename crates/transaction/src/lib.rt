@@ -1,4 +1,6 @@
 // A transaction judged on its own.
 pub mod entry_set;
+pub mod fault;
 pub mod header;
+pub mod record;
 pub mod verdict;
