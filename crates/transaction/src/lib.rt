@@ -1,4 +1,5 @@
 // A transaction judged on its own.
+pub mod details;
 pub mod entry_set;
 pub mod fault;
 pub mod header;
