@@ -1,4 +1,6 @@
+pub mod Chains
 pub mod Firsts
 pub mod Products
-pub mod Walks
 pub mod Sets
+pub mod Turns
+pub mod Walks

@@ -3,5 +3,6 @@ pub mod details;
 pub mod entry_set;
 pub mod fault;
 pub mod header;
+pub mod own;
 pub mod record;
 pub mod verdict;
