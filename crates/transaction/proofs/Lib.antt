@@ -1,0 +1,4 @@
+pub mod Firsts
+pub mod Products
+pub mod Walks
+pub mod Sets

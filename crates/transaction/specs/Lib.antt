@@ -1,0 +1,5 @@
+pub mod Verdicts
+pub mod Details
+pub mod Headers
+pub mod Checks
+pub mod Layers

@@ -1,0 +1,7 @@
+// A transaction judged on its own.
+pub mod details;
+pub mod entry_set;
+pub mod fault;
+pub mod header;
+pub mod record;
+pub mod verdict;
