@@ -1,11 +1,11 @@
 -- Worked facts of fields and registers.
-use mathlib.Core.Bool.{Bool, true, cond}
+use mathlib.Core.Bool.{Bool, true, false, cond}
 use mathlib.Core.List.{List, [], _∷_}
 use mathlib.Core.Path.{_≡_}
-use Prim.Native.Nat.{ℕ, _/_, _%_, _^_}
+use Prim.Native.Nat.{ℕ}
 use lib.Chars.{codes}
 use lib.Dec.{eqb}
-use lib.ListN.{getD}
+use lib.ListN.{length, getD}
 use Rattle.std.specs.declared.result.Result.{Result}
 use Rattle.std.specs.declared.result.Result.the-variants.{Ok, Err}
 use Rattle.bytes.specs.Classes.{Bytes}
@@ -17,8 +17,8 @@ use Rattle.layout.specs.Fields.{startOf}
 use Rattle.layout.specs.Layouts.{fieldsOf}
 use Rattle.register.specs.declared.fault.TextFault.the-variants.{Order}
 use Rattle.register.specs.Faults as text
-use Rattle.register.specs.Keys.{keyCheck}
-use Rattle.register.specs.Maps.{bitAt, mapped}
+use Rattle.register.specs.Keys.{isIn, keyCheck, listed}
+use Rattle.register.specs.Maps.{isSet, bitAt, mapped}
 use Rattle.field.specs.declared.fault.Cause.the-variants.{Missing, Shape, Unknown}
 use Rattle.field.specs.declared.fault.FieldFault.{FieldFault}
 use Rattle.field.specs.Checks.{fieldCheck}
@@ -51,8 +51,10 @@ pub record Facts : Type 0 where
   pub account-spaces-first : Misshapen SglEntry 3 (codes " 101")
   pub shape-code : codeOf Shape ≡ 22
   -- account 1010 is bit 2 of byte 126
-  pub bit-1010 : (bits : Bytes) → bitAt bits 1010 ≡ eqb (getD bits 126 0 / 2 ^ 2 % 2) 1
+  pub bit-1010 : (bits : Bytes) → bitAt bits 1010 ≡ isSet (getD bits 126 0) 2
   pub key-1010 : (bits : Bytes) → mapped bits (codes "1010") ≡ bitAt bits 1010
+  -- a key of another width is in no list
+  pub other-width : (w : ℕ) (text k : Bytes) → (length k ≡ w → ⊥) → isIn (listed w text) k ≡ false
   -- `EABA` at width 2 is not ascending
   pub keys-EABA : keyCheck 2 (codes "EABA") ≡ Err Order
   pub keys-BAEA : keyCheck 2 (codes "BAEA") ≡ Ok tt

@@ -1,4 +1,5 @@
 // Fields of a payment's records, good and refused.
+ghost use Prim.Native.Nat.{_<_};
 use bytes::line::Line;
 use field::check_field;
 use layout::Layout;
@@ -30,60 +31,68 @@ fn code_at(layout: Layout, column: usize, bytes: &[u8]) -> u16 {
     99
 }
 
+// Whether each value, of the field's length, gets its code.
+fn get(layout: Layout, column: usize, values: &[u8], len: usize, codes: &[u16]) -> bool
+    requires { ⌜ 0 < len ⌝ }
+{
+    let mut all = values.len() / len == codes.len();
+    for (value, code) in values.chunks(len).zip(codes.iter()) {
+        all = all & (code_at(layout, column, value) == *code);
+    }
+    all
+}
+
 #[test]
 fn payment_header() -> Result<(), Fail> {
-    check_eq(code_at(Layout::PaymentHeader, 2, b"00001234"), 0)?;
-    check_eq(code_at(Layout::PaymentHeader, 2, b"00001235"), 51)?;
-    check_eq(code_at(Layout::PaymentHeader, 2, b"    1234"), 22)?;
-    check_eq(code_at(Layout::PaymentHeader, 2, b"        "), 21)?;
-    check_eq(code_at(Layout::PaymentHeader, 37, b"810"), 0)?;
-    check_eq(code_at(Layout::PaymentHeader, 37, b"812"), 22)?;
-    check_eq(code_at(Layout::PaymentHeader, 40, b"        "), 0)?;
-    check_eq(code_at(Layout::PaymentHeader, 40, b"lower ~ "), 0)?;
-    check_eq(code_at(Layout::PaymentHeader, 40, b" REF0001"), 22)?;
-    check_eq(code_at(Layout::PaymentHeader, 40, b"REF\t0001"), 22)?;
-    check_eq(code_at(Layout::PaymentHeader, 48, b"  "), 0)?;
-    check_eq(code_at(Layout::PaymentHeader, 48, b" x"), 22)
+    let header = Layout::PaymentHeader;
+    check(get(
+        header,
+        2,
+        b"0000123400001235    1234        ",
+        8,
+        &[0, 51, 22, 21],
+    ))?;
+    check(get(header, 32, b"0001200013 0012     ", 5, &[0, 51, 22, 21]))?;
+    check(get(header, 37, b"820810812", 3, &[0, 0, 22]))?;
+    check(get(
+        header,
+        40,
+        b"REF00001lower ~          REF0001REF\t0001",
+        8,
+        &[0, 0, 0, 22, 22],
+    ))?;
+    check(get(header, 48, b"   x", 2, &[0, 22]))
 }
 
 #[test]
 fn payment_detail() -> Result<(), Fail> {
-    check_eq(code_at(Layout::PaymentDetail, 30, b"00000000000650"), 0)?;
-    check_eq(code_at(Layout::PaymentDetail, 30, b"00000000000000"), 22)?;
-    check_eq(code_at(Layout::PaymentDetail, 883, b"P"), 0)?;
-    check_eq(code_at(Layout::PaymentDetail, 883, b"f"), 22)?;
-    check_eq(
-        code_at(Layout::PaymentDetail, 984, b"     09720202021 1234000  C"),
-        0,
-    )?;
-    check_eq(
-        code_at(Layout::PaymentDetail, 984, b"     097        X1234000  C"),
-        51,
-    )?;
-    check_eq(
-        code_at(Layout::PaymentDetail, 984, b"     97 20202021 1234000  C"),
-        22,
-    )?;
-    check_eq(
-        code_at(Layout::PaymentDetail, 984, b"1    09720202021 1234000  C"),
-        22,
-    )?;
-    check_eq(
-        code_at(Layout::PaymentDetail, 984, b"     09720202021 1234000  D"),
-        22,
-    )?;
-    check_eq(
-        code_at(Layout::PaymentDetail, 984, b"                          C"),
-        22,
-    )?;
-    check_eq(
-        code_at(Layout::PaymentDetail, 984, b"                           "),
-        21,
-    )?;
-    check_eq(
-        code_at(Layout::PaymentDetail, 921, b"                           "),
-        0,
-    )?;
-    check_eq(code_at(Layout::PaymentDetail, 1047, b"EA"), 0)?;
-    check_eq(code_at(Layout::SglEntry, 3, b"1010"), 51)
+    let detail = Layout::PaymentDetail;
+    check(get(
+        detail,
+        30,
+        b"0000000000065000000000000000           650",
+        14,
+        &[0, 22, 22],
+    ))?;
+    check(get(detail, 883, b"FPf ", 1, &[0, 0, 22, 21]))?;
+    check(get(detail, 920, b"CPN ", 1, &[0, 0, 22, 0]))?;
+    check(get(detail, 1047, b"BAEAXX  ", 2, &[0, 0, 51, 21]))?;
+    check(get(Layout::SglEntry, 3, b"1010 101", 4, &[51, 22]))
+}
+
+#[test]
+fn symbols() -> Result<(), Fail> {
+    let good = b"     09720202021 1234000  C";
+    let unknown = b"     097        X1234000  C";
+    let agency = b"     97 20202021 1234000  C";
+    let prefix = b"1    09720202021 1234000  C";
+    let letter = b"     09720202021 1234000  D";
+    let blank = b"                           ";
+    check(get(Layout::PaymentDetail, 984, good, 27, &[0]))?;
+    check(get(Layout::PaymentDetail, 984, unknown, 27, &[51]))?;
+    check(get(Layout::PaymentDetail, 984, agency, 27, &[22]))?;
+    check(get(Layout::PaymentDetail, 984, prefix, 27, &[22]))?;
+    check(get(Layout::PaymentDetail, 984, letter, 27, &[22]))?;
+    check(get(Layout::PaymentDetail, 984, blank, 27, &[21]))?;
+    check(get(Layout::PaymentDetail, 921, blank, 27, &[0]))
 }

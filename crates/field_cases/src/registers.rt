@@ -1,5 +1,5 @@
-// Registers of 0, 1, 2 and many keys, at the edges; refused texts; the map; joined and nested registers; the five.
-use layout::field::Lookup;
+// Registers of 0, 1, 2 and many keys, at the edges; refused texts; the map; joined and nested registers.
+ghost use Prim.Native.Nat.{_<_};
 use register::Register;
 use register::bit_map::BitMap;
 use register::bit_map::BitMapRegister;
@@ -7,9 +7,6 @@ use register::bit_map::check_map;
 use register::fault::TextFault;
 use register::fault::TextFaultDebug;
 use register::fault::TextFaultPartialEq;
-use register::five::Five;
-use register::five::FiveRegisters;
-use register::five::Registers;
 use register::joined::Joined;
 use register::joined::JoinedRegister;
 use register::joined::LentRegister;
@@ -18,16 +15,39 @@ use register::key_list::KeyListRegister;
 use register::key_text::check_keys;
 use std::test::*;
 
+// Whether the register has each of the keys of one width, or none of them.
+fn has_each<R: Register>(register: &R, keys: &[u8], width: usize) -> bool
+    requires { ⌜ 0 < width ⌝ }
+{
+    let mut all = true;
+    for key in keys.chunks(width) {
+        all = all & register.has(key);
+    }
+    all
+}
+
+fn has_none<R: Register>(register: &R, keys: &[u8], width: usize) -> bool
+    requires { ⌜ 0 < width ⌝ }
+{
+    let mut none = true;
+    for key in keys.chunks(width) {
+        none = none & !register.has(key);
+    }
+    none
+}
+
 #[test]
 fn few_keys() -> Result<(), Fail> {
     let none = KeyList::of(b"", 2);
-    check(!none.has(b"AA") && !none.has(b""))?;
+    check(has_none(&none, b"AABA", 2))?;
     let one = KeyList::of(b"BA", 2);
-    check(one.has(b"BA") && !one.has(b"AA") && !one.has(b"CA"))?;
-    check(!one.has(b"B") && !one.has(b"BAA") && !one.has(b""))?;
+    check(has_each(&one, b"BA", 2))?;
+    check(has_none(&one, b"AACA", 2))?;
+    check(has_none(&one, b"BAA", 3))?;
+    check(has_none(&one, b"B", 1))?;
     let two = KeyList::of(b"BAEA", 2);
-    check(two.has(b"BA") && two.has(b"EA"))?;
-    check(!two.has(b"AA") && !two.has(b"CA") && !two.has(b"FA") && !two.has(b"AE"))
+    check(has_each(&two, b"BAEA", 2))?;
+    check(has_none(&two, b"AACAFAAE", 2))
 }
 
 // The even numbers of two digits.
@@ -52,12 +72,7 @@ fn texts() -> Result<(), Fail> {
     check_eq(check_keys(b"BAEA\n", 2), Err(TextFault::Width))?;
     check_eq(check_keys(b"EABA", 2), Err(TextFault::Order))?;
     check_eq(check_keys(b"BABA", 2), Err(TextFault::Order))?;
-    check_eq(check_keys(b"A\x7fA\x80", 2), Ok(()))?;
-    let refused = KeyList::of(b"EABA", 2);
-    check(!refused.has(b"EA") && !refused.has(b"BA"))?;
-    check_eq(TextFault::Width.code(), 11)?;
-    check_eq(TextFault::Order.code(), 12)?;
-    check_eq(TextFault::Size.code(), 13)
+    check_eq(check_keys(b"A\x7fA\x80", 2), Ok(()))
 }
 
 #[test]
@@ -67,40 +82,34 @@ fn accounts() -> Result<(), Fail> {
     bits[126] = 4;
     bits[1249] = 128;
     let map = BitMap::of(&bits);
-    check(map.has(b"0000") && map.has(b"1010") && map.has(b"9999"))?;
-    check(!map.has(b"0001") && !map.has(b"1009") && !map.has(b"1011") && !map.has(b"9998"))?;
-    check(!map.has(b"101") && !map.has(b"01010") && !map.has(b" 101") && !map.has(b"    "))?;
-    let short = BitMap::of(&bits[0..1249]);
-    check(!short.has(b"0000") && !short.has(b"1010"))?;
-    check_eq(check_map(&bits), Ok(()))?;
-    check_eq(check_map(&bits[0..1249]), Err(TextFault::Size))
+    check(has_each(&map, b"000010109999", 4))?;
+    check(has_none(&map, b"0001100910119998 101    ", 4))?;
+    check(has_none(&map, b"01010", 5))?;
+    check_eq(check_map(&bits), Ok(()))
 }
 
 #[test]
-fn together() -> Result<(), Fail> {
+fn refused() -> Result<(), Fail> {
+    let descending = KeyList::of(b"EABA", 2);
+    check(has_none(&descending, b"EABA", 2))?;
+    let bits = [255u8; 1249];
+    check_eq(check_map(&bits), Err(TextFault::Size))?;
+    check(has_none(&BitMap::of(&bits), b"00001010", 4))
+}
+
+#[test]
+fn nested() -> Result<(), Fail> {
     let bits = [255u8; 1250];
-    let map = BitMap::of(&bits);
     let units = KeyList::of(b"BAEA", 2);
+    let second = Joined {
+        first: BitMap::of(&bits),
+        second: &units,
+    };
     let nested = Joined {
         first: KeyList::of(b"DZ", 2),
-        second: Joined {
-            first: map,
-            second: &units,
-        },
+        second,
     };
-    check(nested.has(b"DZ") && nested.has(b"4321") && nested.has(b"EA") && !nested.has(b"XX"))?;
-    let five = Five {
-        agencies: KeyList::of(b"00001234", 8),
-        offices: KeyList::of(b"", 5),
-        symbols: &units,
-        units: nested,
-        accounts: map,
-    };
-    check(five.has(Lookup::Agencies, b"00001234") && !five.has(Lookup::Agencies, b"00001235"))?;
-    check(five.has(Lookup::Free, b"anything") && !five.has(Lookup::Offices, b"12345"))?;
-    check(
-        five.has(Lookup::Symbols, b"BA")
-            && five.has(Lookup::Units, b"DZ")
-            && five.has(Lookup::Accounts, b"1010"),
-    )
+    check(has_each(&nested, b"DZBAEA", 2))?;
+    check(has_each(&nested, b"43210000", 4))?;
+    check(has_none(&nested, b"XXDA", 2))
 }

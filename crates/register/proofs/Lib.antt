@@ -2,3 +2,4 @@ mod Bits
 mod Order
 mod Search
 mod Texts
+pub mod Widths

@@ -12,9 +12,13 @@ use Rattle.bytes.specs.Values.{valueOf}
 use Rattle.register.specs.declared.fault.TextFault.{TextFault}
 use Rattle.register.specs.declared.fault.TextFault.the-variants.{Width, Order, Size}
 
--- bit n mod 8, lowest first, of byte n div 8
+-- bit k of a byte, the lowest being bit 0
+abbrev pub isSet : ℕ → ℕ → Bool
+isSet byte k = eqb (byte / 2 ^ k % 2) 1
+
+-- account n: bit n mod 8 of byte n div 8
 abbrev pub bitAt : Bytes → ℕ → Bool
-bitAt bits n = eqb (getD bits (n / 8) 0 / 2 ^ (n % 8) % 2) 1
+bitAt bits n = isSet (getD bits (n / 8) 0) (n % 8)
 
 -- the key is four digits, and the bit of its number is set
 abbrev pub mapped : Bytes → Bytes → Bool

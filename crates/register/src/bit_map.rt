@@ -2,10 +2,10 @@
 ghost use mathlib.Core.Bool.{Bool, false};
 ghost use mathlib.Core.List.{List};
 ghost use mathlib.Core.Path.{_≡_};
-ghost use Prim.Native.Nat.{ℕ};
+ghost use Prim.Native.Nat.{ℕ, _<_};
 ghost use denote.Ref.{now};
 ghost use Rattle.std.specs.Results.{isOk};
-ghost use Rattle.register.specs.Maps.{bitAt, mapCheck, mapped, kept};
+ghost use Rattle.register.specs.Maps.{isSet, bitAt, mapCheck, mapped, kept};
 use crate::Register;
 use crate::fault::TextFault;
 use bytes::class::Digits;
@@ -24,12 +24,23 @@ pub fn check_map(bits: &[u8]) -> Result<(), TextFault>
     Ok(())
 }
 
+// Bit k of a byte, the lowest being bit 0.
+fn has_bit(byte: u8, k: usize) -> bool
+    requires { ⌜ k < 8 ⌝ }
+    ensures { λ r. ⌜ r ≡ isSet byte k ⌝ }
+{
+    (byte >> k) & 1 == 1
+}
+
 // Account n is bit n mod 8, lowest first, of byte n div 8. Past the bytes no bit is set.
-fn is_set(bits: &[u8], n: usize) -> bool
+fn has_account(bits: &[u8], n: usize) -> bool
     ensures { λ r. ⌜ r ≡ bitAt (now (bits .entry)) n ⌝ }
 {
     let at = n / 8;
-    at < bits.len() && (bits[at] >> (n % 8)) & 1 == 1
+    if at >= bits.len() {
+        return false;
+    }
+    has_bit(bits[at], n % 8)
 }
 
 #[derive(Clone, Copy)]
@@ -58,6 +69,6 @@ pub impl<'a> Register for BitMap<'a> as BitMapRegister {
         if key.len() != 4 || !each::<Digits>(key) {
             return false;
         }
-        is_set(self.bits, number_at(key, 1, 4) as usize)
+        has_account(self.bits, number_at(key, 1, 4) as usize)
     }
 }

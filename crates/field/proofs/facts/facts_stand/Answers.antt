@@ -1,4 +1,5 @@
 use mathlib.Core.Path.{refl}
+use Rattle.register.proofs.Widths.{other-width}
 use Rattle.field.proofs.facts.facts_stand.Needs as need
 
 pub returns : need.returns
@@ -11,6 +12,7 @@ returns c = record {
   shape-code = refl;
   bit-1010 = λ bits. refl;
   key-1010 = λ bits. refl;
+  other-width = other-width;
   keys-EABA = refl;
   keys-BAEA = refl;
   order-code = refl;
