@@ -1,0 +1,4 @@
+pub mod Alls
+pub mod Blocks
+pub mod Columns
+pub mod Values

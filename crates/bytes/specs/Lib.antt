@@ -1,0 +1,3 @@
+pub mod Classes
+pub mod Parts
+pub mod Values
