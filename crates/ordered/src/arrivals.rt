@@ -51,6 +51,33 @@ impl<T: Keyed, const N: usize> Arrivals<T, N> {
         pick(&all[0..n], key)
     }
 
+    // The records, as they came.
+    pub fn records(&self) -> &[T]
+        requires { ⌜ FineArrivals (T·Keyed .code) (T·Keyed .sound) (now self) ⌝ }
+        ensures { λ r. ⌜ now r ≡ arrived (now (self .entry)) ⌝ }
+    {
+        let n = self.n;
+        let all = &self.rows[..];
+        &all[0..n]
+    }
+
+    // What adding a record with this key would answer.
+    pub fn admits(&self, row: &T) -> Result<(), Refusal>
+        requires { ⌜ FineArrivals (T·Keyed .code) (T·Keyed .sound) (now self) ⌝ }
+        ensures { λ r. ⌜ r ≡ adds ranks (T·Keyed .code) (listed (T·Keyed .code) (now (self .entry))) N (now (row .entry)) ⌝ }
+    {
+        match self.seek(row.key()) {
+            Some(_) => Err(Refusal::Held),
+            None => {
+                if self.n >= N {
+                    Err(Refusal::Full)
+                } else {
+                    Ok(())
+                }
+            }
+        }
+    }
+
     // Adds a record behind the others.
     pub fn add(&mut self, row: T) -> Result<(), Refusal>
         requires fine { ⌜ FineArrivals (T·Keyed .code) (T·Keyed .sound) (now self) ⌝ }

@@ -52,6 +52,32 @@ impl<'a, T: Keyed> Table<'a, T> {
         look_up(&self.rows[0..n], key)
     }
 
+    // The records, in the order of their keys.
+    pub fn records(&self) -> &[T]
+        requires { ⌜ Fine (T·Keyed .code) (T·Keyed .sound) (now self) ⌝ }
+        ensures { λ r. ⌜ now r ≡ shown (now (self .entry)) ⌝ }
+    {
+        let n = self.n;
+        &self.rows[0..n]
+    }
+
+    // What adding a record with this key would answer.
+    pub fn admits(&self, row: &T) -> Result<(), Refusal>
+        requires { ⌜ Fine (T·Keyed .code) (T·Keyed .sound) (now self) ⌝ }
+        ensures { λ r. ⌜ r ≡ adds ranks (T·Keyed .code) (shown (now (self .entry))) (now (self .entry) .places) (now (row .entry)) ⌝ }
+    {
+        match self.seek(row.key()) {
+            Ok(_) => Err(Refusal::Held),
+            Err(_) => {
+                if self.n >= self.places {
+                    Err(Refusal::Full)
+                } else {
+                    Ok(())
+                }
+            }
+        }
+    }
+
     fn put_in(&mut self, at: usize, row: T)
         requires room { ⌜ now self .n < now self .places ⌝ }
         requires given { ⌜ now self .places ≤ length (now self .rows .now) ⌝ }
