@@ -4,3 +4,4 @@ pub mod Meaning
 pub mod Told
 pub mod Actions
 pub mod Stands
+pub mod Rows

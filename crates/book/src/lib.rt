@@ -17,10 +17,13 @@ use self::places::FreePlaces;
 use self::sought::Sought;
 
 pub mod entry;
+pub mod entry_row;
 pub mod fault;
 pub mod line;
 pub mod line_number;
+pub mod line_row;
 pub mod mark;
+pub mod mark_row;
 pub mod new_entry;
 pub mod pair;
 pub mod places;

@@ -1,0 +1,95 @@
+// The row of a line, and its key: the pair, and the line's number in six digits.
+ghost use mathlib.Core.Path.{_≡_};
+ghost use mathlib.Core.Bool.{true, cond};
+ghost use Prim.Native.Nat.{ℕ, _+_, _-_, _<_, _≤_};
+ghost use lib.ListN.{length};
+ghost use Rattle.std.specs.Options.{mapped};
+ghost use Rattle.std.specs.declared.option.Option.the-variants.{Some, None};
+ghost use Rattle.book.specs.Meaning.{lineUnder, lineTold};
+ghost use Rattle.book.specs.Told.{lineNumberTold};
+ghost use Rattle.book.specs.Stands.{isLineNumber};
+ghost use Rattle.book.specs.Rows.{lineKey, lineOf, lineCode, soundLine};
+use super::line::Line;
+use super::line_number::LineNumber;
+use super::pair::Pair;
+use ordered::Keyed;
+
+#[derive(Clone, Copy)]
+pub struct LineRow {
+    pub amount: u64,
+    pub key: [u8; 19],
+    pub sender: [u8; 27],
+    pub receiver: [u8; 27],
+}
+
+pub impl Keyed for LineRow as LineKeyed {
+    ghost code = { lineCode };
+
+    ghost sound = { soundLine };
+
+    fn key(&self) -> &[u8] {
+        &self.key
+    }
+}
+
+impl LineNumber {
+    // The number, if it is from 1 to 1,000.
+    pub fn new(n: u32) -> Option<LineNumber>
+        ensures { λ r. ⌜ mapped lineNumberTold r ≡ cond (isLineNumber n) (Some n) None ⌝ }
+    {
+        if 1 <= n && n <= 1000 {
+            Some(LineNumber { value: n as u16 })
+        } else {
+            None
+        }
+    }
+}
+
+impl Pair {
+    // The key of the line with this number under this pair.
+    pub fn line_key(&self, number: LineNumber) -> [u8; 19]
+        ensures is { λ r. ⌜ r ≡ lineKey (now (self .entry)) (number .value) ⌝ }
+        ensures office { λ r. ⌜ length (now (self .entry) .office) ≡ 5 ⌝ }
+        ensures reference { λ r. ⌜ length (now (self .entry) .reference) ≡ 8 ⌝ }
+    {
+        let pair = self.key();
+        let n = number.value;
+        let mut key = [b'0'; 19];
+        key[0..13].copy_from_slice(&pair);
+        key[13] = 48 + (n / 10 / 10 / 10 / 10 / 10 % 10) as u8;
+        key[14] = 48 + (n / 10 / 10 / 10 / 10 % 10) as u8;
+        key[15] = 48 + (n / 10 / 10 / 10 % 10) as u8;
+        key[16] = 48 + (n / 10 / 10 % 10) as u8;
+        key[17] = 48 + (n / 10 % 10) as u8;
+        key[18] = 48 + (n % 10) as u8;
+        key
+    }
+}
+
+impl LineRow {
+    // The row of a line.
+    pub fn new(pair: &Pair, number: LineNumber, line: &Line) -> LineRow
+        ensures means { λ r. ⌜ lineOf r ≡ lineUnder (now (pair .entry)) (number .value) (now (line .entry)) ⌝ }
+        ensures key { λ r. ⌜ lineCode r ≡ lineKey (now (pair .entry)) (number .value) ⌝ }
+        ensures sound { λ r. ⌜ soundLine r ≡ true ⌝ }
+        ensures office { λ r. ⌜ length (now (pair .entry) .office) ≡ 5 ⌝ }
+        ensures reference { λ r. ⌜ length (now (pair .entry) .reference) ≡ 8 ⌝ }
+    {
+        LineRow {
+            amount: line.amount,
+            key: pair.line_key(number),
+            sender: line.sender,
+            receiver: line.receiver,
+        }
+    }
+
+    pub fn line(&self) -> Line
+        ensures { λ r. ⌜ r ≡ lineTold (lineOf (now (self .entry))) ⌝ }
+    {
+        Line {
+            amount: self.amount,
+            sender: self.sender,
+            receiver: self.receiver,
+        }
+    }
+}
