@@ -128,8 +128,11 @@ abbrev pub rejectedIn : MarkHeld → ℕ
 rejectedIn m = m .rejected
 
 -- how many were accepted, and how many rejected
+abbrev pub countedIn : List MarkHeld → Counts
+countedIn ms = record { accepted = sumBy acceptedIn ms; rejected = sumBy rejectedIn ms }
+
 abbrev pub counted : BookMeaning → Counts
-counted b = record { accepted = sumBy acceptedIn (b .marks); rejected = sumBy rejectedIn (b .marks) }
+counted b = countedIn (b .marks)
 
 -- 820 and 810: what an adjustment may take from
 abbrev pub adjustable : SetId → Bool

@@ -3,11 +3,14 @@
 --     a line's key     the pair, and the line's number in six digits
 --     a mark's key     the File ID Number (19 bytes)
 -- Assumes nothing.
-use mathlib.Core.Bool.{Bool, _&&_}
+use mathlib.Core.Path.{_≡_}
+use mathlib.Core.Bool.{Bool, true, _&&_}
 use mathlib.Core.List.{List, [], _∷_, _++_, map}
-use Prim.Native.Nat.{ℕ, zero, suc, _+_, _-_, _/_, _%_}
+use Prim.Native.Nat.{ℕ, zero, suc, _+_, _-_, _/_, _%_, _<_}
 use lib.Dec.{leb}
-use lib.ListN.{take, drop}
+use lib.ListN.{length, getD, take, drop}
+use Rattle.std.specs.declared.option.Option.{Option}
+use Rattle.std.specs.declared.option.Option.the-variants.{Some, None}
 use Rattle.std.specs.shelf.Text.{sameBytes}
 use Rattle.bytes.specs.Classes.{Bytes}
 use Rattle.bytes.specs.Values.{valueOf}
@@ -15,7 +18,8 @@ use Rattle.book.specs.declared.pair.Pair.{Pair}
 use Rattle.book.specs.declared.entry_row.EntryRow.{EntryRow}
 use Rattle.book.specs.declared.line_row.LineRow.{LineRow}
 use Rattle.book.specs.declared.mark_row.MarkRow.{MarkRow}
-use Rattle.book.specs.Meaning.{EntryHeld, LineHeld, MarkHeld, BookMeaning}
+use Rattle.book.specs.Meaning.{EntryHeld, LineHeld, MarkHeld, BookMeaning, seekable}
+use Rattle.book.specs.Lists.{find}
 use Rattle.book.specs.Actions.{countsFit}
 use Rattle.book.specs.Stands.{covered, isLineNumber}
 
@@ -68,6 +72,11 @@ soundMark x = countsFit (markOf x)
 -- a row with n less of its open amount
 abbrev pub lessRow : ℕ → EntryRow → EntryRow
 lessRow n x = record { total = x .total; left = x .left - n; day = x .day; key = x .key; «set_id» = x .«set_id» }
+
+-- the row at i may be answered by seek, or none may
+abbrev pub OpenAt : Bytes → List EntryRow → Option ℕ → Type 0
+OpenAt office xs None = find (seekable office) (map entryOf xs) ≡ None
+OpenAt office xs (Some i) = (i < length xs) × ((d : EntryRow) → seekable office (entryOf (getD xs i d)) ≡ true)
 
 -- ---- what rows in the order of their keys mean, with the capacities of the tables
 

@@ -30,6 +30,10 @@ told e = record { set-id = e .«set_id»; day = e .day; total = e .total; open-a
 abbrev pub lineNumberTold : LineNumber → ℕ
 lineNumberTold n = n .value
 
+-- what seek tells: the reference, and the entry under it
+abbrev pub soughtTold : Sought → Bytes × EntryTold
+soughtTold s = (s .reference, told (s .entry))
+
 -- the entry told is held, and may be answered
 abbrev pub SoughtAs : Bytes → EntryTold → Option EntryHeld → Type 0
 SoughtAs office t None = ⊥

@@ -5,12 +5,13 @@ ghost use Prim.Native.Nat.{ℕ, _+_, _-_, _<_, _≤_};
 ghost use lib.ListN.{length, drop};
 ghost use Rattle.std.specs.Options.{mapped};
 ghost use Rattle.std.specs.declared.option.Option.the-variants.{Some, None};
-ghost use Rattle.book.specs.Meaning.{fresh};
-ghost use Rattle.book.specs.Told.{told, entryTold};
-ghost use Rattle.book.specs.Rows.{pairKey, entryOf, entryCode, soundEntry};
+ghost use Rattle.book.specs.Meaning.{fresh, adjustable, seekable};
+ghost use Rattle.book.specs.Told.{told, entryTold, soughtTold};
+ghost use Rattle.book.specs.Rows.{pairKey, entryOf, entryCode, soundEntry, OpenAt};
 use super::entry::Entry;
 use super::new_entry::NewEntry;
 use super::pair::Pair;
+use super::sought::Sought;
 use layout::set_id::SetId;
 use ordered::Keyed;
 
@@ -92,4 +93,51 @@ impl EntryRow {
             None
         }
     }
+
+    // The reference, and the entry made whole after a check.
+    pub fn sought(&self) -> Option<Sought>
+        ensures { λ r. ⌜ mapped soughtTold r ≡ cond (soundEntry (now (self .entry))) (Some (drop 5 (now (self .entry) .key), entryTold (entryOf (now (self .entry))))) None ⌝ }
+    {
+        let mut reference = [0u8; 8];
+        reference.copy_from_slice(&self.key[5..13]);
+        match self.entry() {
+            Some(entry) => Some(Sought { reference, entry }),
+            None => None,
+        }
+    }
+
+    // May seek answer this row.
+    fn is_open(&self, office: &[u8; 5]) -> bool
+        ensures { λ r. ⌜ r ≡ seekable (now (office .entry)) (entryOf (now (self .entry))) ⌝ }
+    {
+        let front = &self.key[0..5];
+        front == office && is_adjustable(self.set_id) && self.left > 0
+    }
+}
+
+// Payments and collections are what an adjustment may take from.
+pub fn is_adjustable(set_id: SetId) -> bool
+    ensures { λ r. ⌜ r ≡ adjustable «set_id» ⌝ }
+{
+    match set_id {
+        SetId::Payment => true,
+        SetId::Collection => true,
+        SetId::ReceiverAdjustment => false,
+        SetId::SenderAdjustment => false,
+        SetId::ZeroDollar => false,
+        SetId::PostSgl => false,
+    }
+}
+
+// Where the first row stands that seek may answer.
+pub fn first_open(rows: &[EntryRow], office: &[u8; 5]) -> Option<usize>
+    ensures at { λ r. ⌜ OpenAt (now (office .entry)) (now (rows .entry)) r ⌝ }
+    ensures office { λ r. ⌜ length (now (office .entry)) ≡ 5 ⌝ }
+{
+    for i in 0..rows.len() {
+        if rows[i].is_open(office) {
+            return Some(i);
+        }
+    }
+    None
 }

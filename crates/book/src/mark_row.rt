@@ -1,9 +1,13 @@
 // The row of a mark, and its key: the File ID Number.
 ghost use mathlib.Core.Path.{_≡_};
 ghost use mathlib.Core.Bool.{true};
-ghost use Rattle.book.specs.Meaning.{markUnder, markTold};
+ghost use mathlib.Core.List.{map};
+ghost use Prim.Native.Nat.{_≤_};
+ghost use lib.ListN.{length};
+ghost use Rattle.book.specs.Meaning.{markUnder, markTold, countedIn};
 ghost use Rattle.book.specs.Actions.{countsFit};
 ghost use Rattle.book.specs.Rows.{markOf, markCode, soundMark};
+use super::mark::Counts;
 use super::mark::Mark;
 use ordered::Keyed;
 
@@ -52,4 +56,19 @@ impl MarkRow {
             rejected: self.rejected,
         }
     }
+}
+
+// The sums of the marks' counts.
+pub fn sum_counts(rows: &[MarkRow]) -> Counts
+    requires { ⌜ length (now rows) ≤ 65536 ⌝ }
+    ensures { λ r. ⌜ r ≡ countedIn (map markOf (now (rows .entry))) ⌝ }
+{
+    let mut accepted: u64 = 0;
+    let mut rejected: u64 = 0;
+    for row in rows {
+        let mark = row.mark();
+        accepted += u64::from(mark.accepted);
+        rejected += u64::from(mark.rejected);
+    }
+    Counts { accepted, rejected }
 }
