@@ -51,7 +51,7 @@ impl Pair {
 impl EntryRow {
     // What fills a place that is not used.
     pub fn unused() -> EntryRow
-        ensures { λ r. ⌜ soundEntry r ≡ true ⌝ }
+        ensures { λ r. ⌜ r .total ≡ 0 ⌝ }
     {
         EntryRow {
             total: 0,

@@ -1,6 +1,8 @@
 // Why an action on a book is refused.
 ghost use mathlib.Core.Path.{_≡_};
+ghost use Rattle.std.specs.declared.result.Result.the-variants.{Err};
 ghost use Rattle.book.specs.Faults.{faultNumber, asBookFault};
+ghost use Rattle.book.specs.Actions.{andThen};
 use ordered::refusal::Refusal;
 
 #[derive(Clone, Copy, PartialEq, Eq, Debug)]
@@ -34,5 +36,15 @@ pub fn as_book(answer: Result<(), Refusal>) -> Result<(), BookFault>
         Ok(()) => Ok(()),
         Err(Refusal::Held) => Err(BookFault::Held),
         Err(Refusal::Full) => Err(BookFault::Full),
+    }
+}
+
+// The answer to a mark with a count above its limit: what refuses it first, or else that count.
+pub fn or_too_large(answer: Result<(), BookFault>) -> Result<(), BookFault>
+    ensures { λ r. ⌜ r ≡ andThen answer (Err BookFault.CountTooLarge) ⌝ }
+{
+    match answer {
+        Ok(()) => Err(BookFault::CountTooLarge),
+        Err(fault) => Err(fault),
     }
 }

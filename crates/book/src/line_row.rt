@@ -67,6 +67,18 @@ impl Pair {
 }
 
 impl LineRow {
+    // What fills a place that is not used.
+    pub fn unused() -> LineRow
+        ensures { λ r. ⌜ r .amount ≡ 0 ⌝ }
+    {
+        LineRow {
+            amount: 0,
+            key: [0; 19],
+            sender: [0; 27],
+            receiver: [0; 27],
+        }
+    }
+
     // The row of a line.
     pub fn new(pair: &Pair, number: LineNumber, line: &Line) -> LineRow
         ensures means { λ r. ⌜ lineOf r ≡ lineUnder (now (pair .entry)) (number .value) (now (line .entry)) ⌝ }

@@ -29,6 +29,17 @@ pub impl Keyed for MarkRow as MarkKeyed {
 }
 
 impl MarkRow {
+    // What fills a place that is not used.
+    pub fn unused() -> MarkRow
+        ensures { λ r. ⌜ r .accepted ≡ 0 ⌝ }
+    {
+        MarkRow {
+            accepted: 0,
+            rejected: 0,
+            key: [0; 19],
+        }
+    }
+
     // The row of a mark.
     pub fn new(file: &[u8; 19], mark: Mark) -> MarkRow
         ensures means { λ r. ⌜ markOf r ≡ markUnder (now (file .entry)) mark ⌝ }
