@@ -3,3 +3,4 @@ pub mod Details
 pub mod Headers
 pub mod Checks
 pub mod Layers
+pub mod Sounds

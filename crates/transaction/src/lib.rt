@@ -3,6 +3,7 @@ pub mod details;
 pub mod entry_set;
 pub mod fault;
 pub mod header;
-pub mod own;
+mod own;
 pub mod record;
+pub mod sound;
 pub mod verdict;
