@@ -4,3 +4,6 @@ pub mod opening;
 pub mod records;
 pub mod tally;
 pub mod transactions;
+
+#[cfg(test)]
+mod tests;
