@@ -2,7 +2,6 @@
 pub mod class;
 pub mod line;
 pub mod part;
-pub mod value;
-
 #[cfg(test)]
 mod tests;
+pub mod value;

@@ -3,7 +3,6 @@ pub mod feed;
 pub mod opening;
 pub mod records;
 pub mod tally;
-pub mod transactions;
-
 #[cfg(test)]
 mod tests;
+pub mod transactions;

@@ -23,7 +23,10 @@ fn good_openings() -> Result<(), Fail> {
     let opening = Opening::of(b"PCA    \nBIPAC000000040000123420260105001\nH\n")?;
     check_eq(opening.stated, 4)?;
     check(is_same(&opening.id, b"0000123420260105001"))?;
-    check_eq(code_of(b"PCA    \nBIPAC99999999a file of mine     \nH\n"), 0)
+    check_eq(
+        code_of(b"PCA    \nBIPAC99999999a file of mine     \nH\n"),
+        0,
+    )
 }
 
 #[test]
@@ -37,25 +40,46 @@ fn files_without_an_end() -> Result<(), Fail> {
 fn bad_first_records() -> Result<(), Fail> {
     check_eq(code_of(b"\n"), 3)?;
     check_eq(code_of(b"PCA   \n"), 3)?;
-    check_eq(code_of(b"PCA    \r\nBIPAC000000040000123420260105001\r\nH\r\n"), 3)
+    check_eq(
+        code_of(b"PCA    \r\nBIPAC000000040000123420260105001\r\nH\r\n"),
+        3,
+    )
 }
 
 #[test]
 fn bad_second_records() -> Result<(), Fail> {
     check_eq(code_of(b"PCA    \n"), 4)?;
     check_eq(code_of(b"PCA    \nBIPAC00000004000012342026010500\nH\n"), 4).note("31 bytes")?;
-    check_eq(code_of(b"PCA    \nBIPAC0000000400001234202601050011\nH\n"), 4).note("33 bytes")?;
-    check_eq(code_of(b"PCA    \nBIPAX000000040000123420260105001\nH\n"), 4)?;
-    check_eq(code_of(b"PCA    \nBIPAC0000000A0000123420260105001\nH\n"), 4)?;
-    check_eq(code_of(b"PCA    \nBIPAC00000004                   \nH\n"), 4)?;
-    check_eq(code_of(b"PCA    \nBIPAC00000004 000123420260105001\nH\n"), 4)
+    check_eq(
+        code_of(b"PCA    \nBIPAC0000000400001234202601050011\nH\n"),
+        4,
+    ).note("33 bytes")?;
+    check_eq(
+        code_of(b"PCA    \nBIPAX000000040000123420260105001\nH\n"),
+        4,
+    )?;
+    check_eq(
+        code_of(b"PCA    \nBIPAC0000000A0000123420260105001\nH\n"),
+        4,
+    )?;
+    check_eq(
+        code_of(b"PCA    \nBIPAC00000004                   \nH\n"),
+        4,
+    )?;
+    check_eq(
+        code_of(b"PCA    \nBIPAC00000004 000123420260105001\nH\n"),
+        4,
+    )
 }
 
 #[test]
 fn bad_third_records() -> Result<(), Fail> {
     check_eq(code_of(b"PCA    \nBIPAC000000040000123420260105001\n"), 5)?;
     check_eq(code_of(b"PCA    \nBIPAC000000040000123420260105001\n\n"), 5)?;
-    check_eq(code_of(b"PCA    \nBIPAC000000040000123420260105001\nh\n"), 5)
+    check_eq(
+        code_of(b"PCA    \nBIPAC000000040000123420260105001\nh\n"),
+        5,
+    )
 }
 
 // Two transactions: a header with a D, an E and an empty record; and a header with a record of no letter.

@@ -1,4 +1,7 @@
 // What the opening says of a file of the greatest length, and of one that has a byte more.
+ghost use mathlib.Core.Path.{_≡_};
+ghost use Rattle.std.specs.Of.Vec.{vec-len};
+ghost use Rattle.std.specs.Vec.{made};
 use file::opening::Opening;
 use std::alloc::AllocError;
 use std::alloc::Global;
@@ -7,7 +10,9 @@ use std::error::AnyError;
 const TOP: &[u8] = b"PCA    \nBIPAC000000040000123420260105001\nH";
 
 // A file of `size` bytes: a good opening, a header, and empty records behind it.
-fn file_of(heap: Global, size: usize) -> Result<Vec<u8>, AllocError> {
+fn file_of(heap: Global, size: usize) -> Result<Vec<u8>, AllocError>
+    ensures { λ r. ⌜ made r (λ v. vec-len v ≡ size) ⌝ }
+{
     let mut file = Vec::new(heap);
     file.extend_from_slice(TOP)?;
     file.resize(size, b'\n')?;
