@@ -75,21 +75,24 @@ pub record Cut (xs : Bytes) : Type 0 where
   pub front : records (take (headerAfter xs) xs) ≡ firstOf (records xs) ∷ untilHeader (othersOf (records xs))
   pub later : transactions (records (drop (headerAfter xs) xs)) ≡ transactions (othersOf (records xs))
 
-starts : (b : ℕ) (bs : Bytes) → isHeader (firstOf (onto b (records bs))) ≡ eqb b 72
-starts b bs = go (records bs)
+starts : (letter b : ℕ) (bs : Bytes) → begins letter (firstOf (onto b (records bs))) ≡ eqb b letter
+starts letter b bs = go (records bs)
   where
-    go : (rs : List Bytes) → isHeader (firstOf (onto b rs)) ≡ eqb b 72
+    go : (rs : List Bytes) → begins letter (firstOf (onto b rs)) ≡ eqb b letter
     go [] = refl
     go (r ∷ rs) = refl
 
--- the first byte tells whether the first record is a header
-pub header-first : (xs : Bytes) → isHeader (firstOf (records xs)) ≡ begins 72 xs
-header-first [] = refl
-header-first (b ∷ bs) = go (eqb b 10) refl
+-- the first byte tells the letter of the first record
+pub letter-first : (letter : ℕ) (xs : Bytes) → eqb 10 letter ≡ false → begins letter (firstOf (records xs)) ≡ begins letter xs
+letter-first letter [] h = refl
+letter-first letter (b ∷ bs) h = go (eqb b 10) refl
   where
-    go : (v : Bool) → eqb b 10 ≡ v → isHeader (firstOf (records (b ∷ bs))) ≡ eqb b 72
-    go true e = let is : b ≡ 10 = eqb-true b 10 e in simp is
-    go false e = simp e (starts b bs)
+    go : (v : Bool) → eqb b 10 ≡ v → begins letter (firstOf (records (b ∷ bs))) ≡ eqb b letter
+    go true e = let is : b ≡ 10 = eqb-true b 10 e in let k : eqb b letter ≡ false = ap (λ n. eqb n letter) is ∙ h in simp e (sym k)
+    go false e = simp e (starts letter b bs)
+
+pub header-first : (xs : Bytes) → isHeader (firstOf (records xs)) ≡ begins 72 xs
+header-first xs = letter-first 72 xs refl
 
 until-header : (r : Bytes) (rs : List Bytes) → isHeader r ≡ true → untilHeader (r ∷ rs) ≡ []
 until-header r rs h = simp h

@@ -11,6 +11,7 @@ use crate::set_id::SetId;
 pub mod companion;
 pub mod field;
 pub mod letter;
+pub mod pair;
 pub mod set_id;
 mod tables;
 

@@ -1,0 +1,6 @@
+pub mod Verdicts
+pub mod Details
+pub mod Headers
+pub mod Checks
+pub mod Layers
+pub mod Sounds
