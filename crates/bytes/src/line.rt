@@ -63,7 +63,7 @@ impl<'a> Line<'a> {
     pub fn is_printable(self) -> bool
         ensures { λ r. ⌜ r ≡ all isPrintable (now (self .entry .bytes)) ⌝ }
     {
-        self.printable || every::<Printables>(self.bytes)
+        self.is_known_printable() || every::<Printables>(self.bytes)
     }
 
     pub fn is_type_a(self) -> bool

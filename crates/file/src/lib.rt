@@ -3,4 +3,6 @@ pub mod feed;
 pub mod opening;
 pub mod records;
 pub mod tally;
+#[cfg(test)]
+mod tests;
 pub mod transactions;

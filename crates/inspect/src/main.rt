@@ -13,7 +13,7 @@ use std::fs;
 use words::name_of;
 use words::words_of;
 
-// A transaction's header, or nothing for people to read where it has none.
+// A line of the table: where the transaction stands, its Set ID, and how many D and E records it has.
 fn print_transaction(
     rt: &LibcRuntime,
     number: u64,
@@ -30,18 +30,26 @@ fn print_transaction(
             let name = name_of(set_id);
             println!(
                 rt,
-                "transaction {number}, record {first}: {digits} {name}, D records {details}, E records {entries}"
+                "{number:>11}  {first:>12}  {digits} {name:<21}  {details:>9}  {entries:>9}"
             )?;
         }
-        None => println!(
-            rt,
-            "transaction {number}, record {first}: Set ID unknown, D records {details}, E records {entries}"
-        )?,
+        None => {
+            let name = "unknown";
+            println!(
+                rt,
+                "{number:>11}  {first:>12}  {name:<25}  {details:>9}  {entries:>9}"
+            )?;
+        }
     }
     Ok(())
 }
 
+// A file's first transaction begins at record 3, each other one behind the one before it.
 fn print_transactions(rt: &LibcRuntime, bulk: &[u8]) -> Result<(), AnyError> {
+    println!(
+        rt,
+        "transaction  first record  Set ID                     D records  E records"
+    )?;
     let mut number: u64 = 0;
     let mut first: u64 = 3;
     for transaction in Transactions::of(body(bulk)) {
@@ -59,10 +67,10 @@ fn print_opening(rt: &LibcRuntime, opening: Opening, bulk: &[u8]) -> Result<(), 
     let found = Found::of(bulk);
     let records = found.records;
     let transactions = found.transactions;
-    println!(
-        rt,
-        "File ID Number {id}: records stated {stated}, found {records}, transactions {transactions}"
-    )?;
+    println!(rt, "File ID Number: {id}")?;
+    println!(rt, "records: {stated} stated, {records} found")?;
+    println!(rt, "transactions: {transactions}")?;
+    rt.println("")?;
     Ok(())
 }
 

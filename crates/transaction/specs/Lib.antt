@@ -3,3 +3,5 @@ pub mod Details
 pub mod Headers
 pub mod Checks
 pub mod Layers
+pub mod Sounds
+pub mod Pairs

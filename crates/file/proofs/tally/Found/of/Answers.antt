@@ -1,5 +1,6 @@
 use mathlib.Core.Path.{ap, _∙_}
 use mathlib.Core.Bool.{cond}
+use native.Mathlib.Omega.{arith}
 use Rattle.file.specs.Records.{isHeader}
 use Rattle.file.proofs.Tallies.{Founds, found-is}
 use Rattle.file.proofs.tally.Found.of.Needs as need
@@ -12,7 +13,7 @@ told c =
     (c .one-if-2 .ensures .value ∙ ap (λ r. cond (isHeader r) 1 0) (c .top-of-top .ensures .header))
 
 pub sub-result : need.sub-result
-sub-result c = told (need.at·sub-result c .After-one-if-2) .0
+sub-result c = omega (arith, told (need.at·sub-result c .After-one-if-2) .0)
 
 pub returns : need.returns
-returns c = told (need.at·returns c .After-one-if-2) .1
+returns c = let t = told (need.at·returns c .After-one-if-2) .1 in cc

@@ -1,3 +1,4 @@
+use borrow.Author.Needs.{needs}
 use mathlib.Core.Path.{_≡_, sym, ap, _∙_}
 use mathlib.Core.Bool.{Bool, cond}
 use mathlib.Core.List.{[]}
@@ -32,7 +33,9 @@ pub add-tally-in-loop-rest : need.add-tally-in-loop-rest
 add-tally-in-loop-rest c = omega (arith, tally-room isHeader (c .args .text .now) _ _ _ (many-on (need.at·add-tally-in-loop-rest c .After-bytes-record) isHeader _ _ (c .one-if .ensures .value) (c .loop-rest .inv .1)))
 
 pub add-tally-in-loop-rest-2 : need.add-tally-in-loop-rest-2
-add-tally-in-loop-rest-2 c = omega (arith, tally-room isDetail (c .args .text .now) _ _ _ (many-on (need.at·add-tally-in-loop-rest-2 c .After-bytes-record) isDetail _ _ (c .one-if-in-loop-rest .ensures .value) (c .loop-rest .inv .2)))
+add-tally-in-loop-rest-2 c =
+    let is : c .one-if-in-loop-rest .result ≡ cond (isDetail (c .bytes-record .result .now)) 1 0 = search needs in
+    omega (arith, tally-room isDetail (c .args .text .now) _ _ _ (many-on (need.at·add-tally-in-loop-rest-2 c .After-bytes-record) isDetail _ _ is (c .loop-rest .inv .2)))
 
 pub add-tally-in-loop-rest-3 : need.add-tally-in-loop-rest-3
 add-tally-in-loop-rest-3 c = omega (arith, tally-room isEntry (c .args .text .now) _ _ _ (many-on (need.at·add-tally-in-loop-rest-3 c .After-bytes-record) isEntry _ _ (c .one-if-in-loop-rest-2 .ensures .value) (c .loop-rest .inv .3)))
@@ -42,7 +45,7 @@ loop-rest-again c =
     let a = need.at·loop-rest-again c .After-bytes-record in (
       records-on a,
       many-on a isHeader _ _ (c .one-if .ensures .value) (c .loop-rest .inv .1),
-      many-on a isDetail _ _ (c .one-if-in-loop-rest .ensures .value) (c .loop-rest .inv .2),
+      many-on a isDetail _ _ (search needs) (c .loop-rest .inv .2),
       many-on a isEntry _ _ (c .one-if-in-loop-rest-2 .ensures .value) (c .loop-rest .inv .3),
     )
 

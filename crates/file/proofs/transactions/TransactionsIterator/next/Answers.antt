@@ -1,11 +1,9 @@
 use mathlib.Core.Path.{_≡_, sym, ap, _∙_}
-use mathlib.Core.List.{_∷_}
 use Prim.Native.Nat.{_<_}
 use native.Mathlib.Omega.{arith}
-use lib.ListN.{length, take, drop}
+use lib.ListN.{length}
 use Rattle.std.proofs.shelf.Lists.{nil-from-length}
 use Rattle.std.proofs.shelf.Tests.{eqb-true, eqb-false}
-use Rattle.file.specs.Lengths.{headerAfter}
 use Rattle.file.specs.Records.{records, transactions}
 use Rattle.file.proofs.Headers.{cut-header, header-some}
 use Rattle.file.proofs.transactions.TransactionsIterator.next.Needs as need
@@ -29,11 +27,6 @@ returns c =
     let k = c .before-header .ensures .value in
     let least = some (need.at·returns c .After-split-at) in
     record {
-      steps =
-          sym (c .from-header-text .ensures .same)
-          ∙ cut-header text (c .from-header-text .ensures .header least)
-          ∙ ap (λ n. records (take n text) ∷ transactions (records (drop n text))) (sym k)
-          ∙ ap (λ l. records l ∷ transactions (records (drop (c .before-header .result) text))) (sym (c .split-at .ensures .front))
-          ∙ ap (λ l. records (c .split-at .result .0 .now) ∷ transactions (records l)) (sym (c .split-at .ensures .back));
+      steps = let cut = cut-header text (c .from-header-text .ensures .header least) in cc;
       goes = record { on = λ _. (tt, tt, omega (arith, header-some text least, k, c .split-at .ensures .back-len, c .from-header-text .ensures .within)) };
     }
