@@ -2,6 +2,7 @@
 // and each has one promise as its contract, so that a check of the crate asks for its proof.
 ghost use Rattle.promises.specs.EitherOrder.{EitherOrder};
 ghost use Rattle.promises.specs.Lasting.{FirstCounts, NeverGrows, PostedOnce, RejectedLeaveNothing};
+ghost use Rattle.promises.specs.ReadBack.{VerdictsFit, ReadsBack};
 ghost use Rattle.promises.specs.Replaced.{CheckLeavesOthers, PostLeavesOthers};
 ghost use Rattle.promises.specs.Tells.{ShowTells, NeverPassTotal};
 
@@ -51,4 +52,14 @@ pub fn open_amount_never_grows()
 // Without its rejected transactions a file leaves the same entries and lines.
 pub fn rejected_leave_nothing()
     ensures { λ _. ⌜ RejectedLeaveNothing ⌝ }
+{}
+
+// A refusal's code is above 0, and the numbers of a verdict fit their fields in a packet.
+pub fn verdicts_fit_packets()
+    ensures { λ _. ⌜ VerdictsFit ⌝ }
+{}
+
+// A packet has room, and the file's numbers and its verdicts can be read back from it.
+pub fn packets_read_back()
+    ensures { λ _. ⌜ ReadsBack ⌝ }
 {}
