@@ -16,3 +16,4 @@ pub mod OneReplaced
 pub mod Lasts
 pub mod Fits
 pub mod ReadsBack
+pub mod Facts

@@ -12,3 +12,4 @@ pub mod EitherOrder
 pub mod Replaced
 pub mod Lasting
 pub mod ReadBack
+pub mod Facts

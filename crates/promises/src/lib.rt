@@ -1,6 +1,7 @@
 // What may be concluded from the packets of a book's calls. The calls are defined in specs/; the functions here do nothing,
 // and each has one promise as its contract, so that a check of the crate asks for its proof.
 ghost use Rattle.promises.specs.EitherOrder.{EitherOrder};
+ghost use Rattle.promises.specs.Facts.{Facts};
 ghost use Rattle.promises.specs.Lasting.{FirstCounts, NeverGrows, PostedOnce, RejectedLeaveNothing};
 ghost use Rattle.promises.specs.ReadBack.{VerdictsFit, ReadsBack};
 ghost use Rattle.promises.specs.Replaced.{CheckLeavesOthers, PostLeavesOthers};
@@ -62,4 +63,9 @@ pub fn verdicts_fit_packets()
 // A packet has room, and the file's numbers and its verdicts can be read back from it.
 pub fn packets_read_back()
     ensures { λ _. ⌜ ReadsBack ⌝ }
+{}
+
+// Worked facts: days, open amounts, lines, the smallest packet, and a chain of transactions.
+pub fn worked_facts()
+    ensures { λ _. ⌜ Facts ⌝ }
 {}
