@@ -17,3 +17,4 @@ pub mod Lasts
 pub mod Fits
 pub mod ReadsBack
 pub mod Facts
+pub mod Acts

@@ -1,5 +1,6 @@
 // What may be concluded from the packets of a book's calls. The calls are defined in specs/; the functions here do nothing,
 // and each has one promise as its contract, so that a check of the crate asks for its proof.
+ghost use Rattle.promises.specs.Acting.{ActionsDo};
 ghost use Rattle.promises.specs.EitherOrder.{EitherOrder};
 ghost use Rattle.promises.specs.Facts.{Facts};
 ghost use Rattle.promises.specs.Lasting.{FirstCounts, NeverGrows, PostedOnce, RejectedLeaveNothing};
@@ -68,4 +69,9 @@ pub fn packets_read_back()
 // Worked facts: days, open amounts, lines, the smallest packet, and a chain of transactions.
 pub fn worked_facts()
     ensures { λ _. ⌜ Facts ⌝ }
+{}
+
+// No action of the book is refused for an accepted transaction, so that the actions do what is defined.
+pub fn actions_enter_accepted()
+    ensures { λ _. ⌜ ActionsDo ⌝ }
 {}
