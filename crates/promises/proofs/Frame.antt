@@ -236,7 +236,7 @@ module _ (holds : Holds) (P : Pair → Type 0) (day : ℕ) where
       go Accepted None = alike q h
       go Accepted (Some t) = at-apply b day t (detailsOf (othersOf rs)) q ∙ ap (effect day t (detailsOf (othersOf rs)) q) (alike q h) ∙ sym (at-apply c day t (detailsOf (othersOf rs)) q)
 
-  room-next : (b : BookMeaning) (t : List Bytes) (ts : List (List Bytes)) → Room b (t ∷ ts) → Room (entered holds b day t) ts
+  pub room-next : (b : BookMeaning) (t : List Bytes) (ts : List (List Bytes)) → Room b (t ∷ ts) → Room (entered holds b day t) ts
   room-next b t ts h =
       let k = entered-used holds b day t in let ke = k .entries-used in let kl = k .lines-used in let kp = k .entry-places in let kq = k .line-places in
       let he = h .entries in let hl = h .lines in record { entries = omega arith; lines = omega arith }

@@ -21,3 +21,4 @@ pub mod ReadsBack
 pub mod Facts
 pub mod Acts
 pub mod Promised
+pub mod Unlinked

@@ -64,10 +64,10 @@ module _ {file file′ : Bytes} (r : Replaced file file′) where
   abbrev rest : List (List Bytes)
   rest = transactions (records (r .rest))
 
-  was : transactionsOf file ≡ front ++ records (r .old) ∷ rest
+  pub was : transactionsOf file ≡ front ++ records (r .old) ∷ rest
   was = ap transactionsOf (r .was) ∙ between (r .front) (r .old) (r .rest) (r .old-whole) (r .front-ended) (r .front-opening) (r .rest-next)
 
-  is : transactionsOf file′ ≡ front ++ records (r .new) ∷ rest
+  pub is : transactionsOf file′ ≡ front ++ records (r .new) ∷ rest
   is = ap transactionsOf (r .is) ∙ between (r .front) (r .new) (r .rest) (r .new-whole) (r .front-ended) (r .front-opening) (r .rest-next)
 
   checks : (holds : Holds) (b : BookMeaning) (day : ℕ) → OthersAlike (placeOf r) (map (judge holds b day) (transactionsOf file)) (map (judge holds b day) (transactionsOf file′))
@@ -104,7 +104,7 @@ post-leaves-others holds b file file′ day room room′ r apart enough enough�
     same-packets x y (posted holds b x) (posted holds b y) (postGate b x) (postGate b y) (placeOf r) (posts r holds b day opens opens′ apart enough enough′) p q hp hq
 
 -- what stands in front is not touched
-nth-front : (vs ws us : List Verdict) (k : ℕ) → k < length vs → nth (vs ++ ws) k ≡ nth (vs ++ us) k
+pub nth-front : (vs ws us : List Verdict) (k : ℕ) → k < length vs → nth (vs ++ ws) k ≡ nth (vs ++ us) k
 nth-front [] ws us k h = absurd (omega arith)
 nth-front (v ∷ vs) ws us zero h = refl
 nth-front (v ∷ vs) ws us (suc k) h = nth-front vs ws us k (omega arith)

@@ -1,12 +1,15 @@
 -- One transaction of a file replaced leaves the others alone.
 use mathlib.Core.Path.{_≡_}
-use mathlib.Core.Bool.{Bool, true}
+use mathlib.Core.Bool.{Bool, true, false}
 use mathlib.Core.List.{List, [], _∷_, _++_}
+use mathlib.Core.Logic.{_⊎_}
 use Prim.Native.Nat.{ℕ, _≤_, _<_}
 use lib.Dec.{eqb}
 use lib.ListN.{length}
 use Rattle.std.specs.declared.result.Result.the-variants.{Ok}
-use Rattle.std.specs.shelf.Lists.{Has, joined}
+use Rattle.std.specs.declared.option.Option.the-variants.{Some}
+use Rattle.std.specs.shelf.Lists.{All, Has, joined}
+use Rattle.std.specs.shelf.Maps.{nth}
 use Rattle.bytes.specs.Classes.{Bytes}
 use Rattle.layout.specs.declared.pair.Pair.{Pair}
 use Rattle.file.specs.Openings.{endsInFeed}
@@ -86,3 +89,21 @@ abbrev pub PostLeavesEarlier : Type 0
 PostLeavesEarlier = (holds : Holds) (b : BookMeaning) (file file′ : Bytes) (day room room′ : ℕ) (r : Replaced file file′) (p p′ : Bytes) →
     postAnswer holds b (handed file day room) ≡ Ok p → postAnswer holds b (handed file′ day room′) ≡ Ok p′ →
     (k : ℕ) → k < placeOf r → verdictAt k p ≡ verdictAt k p′
+
+-- ---- chains: a group of pairs of which each transaction has all its pairs, or none
+
+abbrev pub Inside : Holds → (Pair → Bool) → List Bytes → Type 0
+Inside holds group t = All (λ p. group p ≡ true) (pairsIn holds t)
+
+abbrev pub Outside : Holds → (Pair → Bool) → List Bytes → Type 0
+Outside holds group t = All (λ p. group p ≡ false) (pairsIn holds t)
+
+-- under post, with places enough, every transaction outside a group that has the pairs of the old one and of the new one,
+-- and that divides the transactions behind them
+abbrev pub PostLeavesUnlinked : Type 0
+PostLeavesUnlinked = (holds : Holds) (b : BookMeaning) (file file′ : Bytes) (day room room′ : ℕ) (r : Replaced file file′) (group : Pair → Bool) →
+    All (λ p. group p ≡ true) (replacedPairs holds r) →
+    All (λ t. Inside holds group t ⊎ Outside holds group t) (transactions (records (r .rest))) →
+    Enough b (file ∷ []) → Enough b (file′ ∷ []) →
+    (p p′ : Bytes) → postAnswer holds b (handed file day room) ≡ Ok p → postAnswer holds b (handed file′ day room′) ≡ Ok p′ →
+    (k : ℕ) (t : List Bytes) → (k ≡ placeOf r → ⊥) → nth (transactionsOf file) k ≡ Some t → Outside holds group t → verdictAt k p ≡ verdictAt k p′

@@ -7,7 +7,7 @@ ghost use Rattle.promises.specs.Lasting.{FirstCounts, NeverGrows, PostedOnce, 
 ghost use Rattle.promises.specs.NoPairs.{PairsByVerdict};
 ghost use Rattle.promises.specs.Promises.{Promises};
 ghost use Rattle.promises.specs.ReadBack.{VerdictsFit, ReadsBack};
-ghost use Rattle.promises.specs.Replaced.{CheckLeavesOthers, PostLeavesOthers, PostLeavesEarlier};
+ghost use Rattle.promises.specs.Replaced.{CheckLeavesOthers, PostLeavesOthers, PostLeavesEarlier, PostLeavesUnlinked};
 ghost use Rattle.promises.specs.Tells.{ShowTells, NeverPassTotal};
 
 // Accepted exactly if every check passes, on its own and against the book; else the first failing check is the verdict.
@@ -86,6 +86,11 @@ pub fn mark_is_set()
 // Under post the transactions before a replaced one keep their verdicts in any case.
 pub fn replaced_one_leaves_earlier_posted()
     ensures { λ _. ⌜ PostLeavesEarlier ⌝ }
+{}
+
+// And, with places enough, so does every transaction that no chain of shared pairs links to the replaced one.
+pub fn replaced_one_leaves_unlinked_posted()
+    ensures { λ _. ⌜ PostLeavesUnlinked ⌝ }
 {}
 
 // The three promises of one run of calls, on a book that other calls led to.
