@@ -7,13 +7,13 @@ use native.Mathlib.Omega.{arith}
 use lib.ListN.{length, getD}
 use Rattle.std.specs.shelf.Lists.{All, Has, joined}
 use Rattle.std.proofs.shelf.Elements.{has-append-left, has-append-right, all-has-itself, all-weaker}
-use Rattle.std.proofs.shelf.Tests.{or-parts}
+use Rattle.std.proofs.shelf.Tests.{or-parts, or-left, or-right}
 use Rattle.bytes.specs.Classes.{Bytes}
 use Rattle.layout.specs.declared.pair.Pair.{Pair}
 use Rattle.book.specs.Meaning.{samePair}
 use Rattle.transaction.specs.Checks.{Holds}
 use Rattle.promises.specs.Related.{pairsIn}
-use Rattle.promises.proofs.Tables.{samePair-is}
+use Rattle.promises.proofs.Tables.{samePair-is, samePair-self}
 use Rattle.promises.proofs.Frame.{Within, all-left, all-right}
 
 -- whether q is among them
@@ -40,6 +40,16 @@ not-among q (p ∷ ps) h = let k = or-parts (samePair p q) (among q ps) h in (k 
 
 pub all-has : {X : Type 0} (P : X → Type 0) (xs : List X) → ((x : X) → Has xs x → P x) → All P xs
 all-has P xs h = all-weaker (Has xs) P h xs (all-has-itself xs)
+
+-- each is among them all
+all-among-more : (p : Pair) (ps qs : List Pair) → All (λ q. among q ps ≡ true) qs → All (λ q. among q (p ∷ ps) ≡ true) qs
+unfolding among
+all-among-more p ps qs h = all-weaker (λ q. among q ps ≡ true) (λ q. among q (p ∷ ps) ≡ true) (λ q e. or-right (samePair p q) (among q ps) e) qs h
+
+pub all-among : (ps : List Pair) → All (λ q. among q ps ≡ true) ps
+unfolding among
+all-among [] = tt
+all-among (p ∷ ps) = (or-left (samePair p p) (among p ps) (samePair-self p), all-among-more p ps ps (all-among ps))
 
 module _ (holds : Holds) where
   abbrev jointly : List (List Bytes) → List Pair

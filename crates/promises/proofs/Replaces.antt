@@ -45,10 +45,6 @@ module _ (holds : Holds) (day : ℕ) where
   length-verdicts [] b = refl
   length-verdicts (t ∷ ts) b = ap suc (length-verdicts ts (entered holds b day t))
 
-  joined-append : (ts us : List (List Bytes)) (p : Pair) → Has (joined (pairsIn holds) us) p → Has (joined (pairsIn holds) (ts ++ us)) p
-  joined-append [] us p h = h
-  joined-append (t ∷ ts) us p h = has-append-right (pairsIn holds t) (joined (pairsIn holds) (ts ++ us)) p (joined-append ts us p h)
-
   -- room for what stands behind one
   pub room-behind : (b : BookMeaning) (before : List (List Bytes)) (t : List Bytes) (later : List (List Bytes)) → length (before ++ t ∷ later) ≤ freeEntries b → sumOf (many isDetail) (before ++ t ∷ later) ≤ freeLines b → Room (entered holds (after holds b day before) day t) later
   room-behind b before t later e l =
@@ -59,33 +55,6 @@ module _ (holds : Holds) (day : ℕ) where
       record { entries = omega arith; lines = omega arith }
 
   module _ (b : BookMeaning) (before later : List (List Bytes)) (old fresh : List Bytes) where
-    abbrev pub NoneHas : Type 0
-    NoneHas = (p : Pair) → Has (pairsIn holds old ++ pairsIn holds fresh) p → Has (joined (pairsIn holds) (before ++ later)) p → ⊥
-
-    abbrev middle : BookMeaning
-    middle = after holds b day before
-
-    abbrev Spared : Pair → Type 0
-    Spared q = among q (pairsIn holds old ++ pairsIn holds fresh) ≡ false
-
-    alike : (q : Pair) → Spared q → at (entered holds middle day old) q ≡ at (entered holds middle day fresh) q
-    alike q h =
-        let k = not-among q (pairsIn holds old ++ pairsIn holds fresh) h in
-        entered-outside holds middle day old q (all-left (λ p. samePair p q ≡ false) (pairsIn holds old) (pairsIn holds fresh) k)
-        ∙ sym (entered-outside holds middle day fresh q (all-right (λ p. samePair p q ≡ false) (pairsIn holds old) (pairsIn holds fresh) k))
-
-    later-same : NoneHas → Room (entered holds middle day old) later → Room (entered holds middle day fresh) later → verdicts holds (entered holds middle day old) day later ≡ verdicts holds (entered holds middle day fresh) day later
-    later-same apart x y =
-        verdicts-alike holds Spared day later (entered holds middle day old) (entered holds middle day fresh) alike
-        (none-among holds (pairsIn holds old ++ pairsIn holds fresh) later (λ p h k. apart p h (joined-append before later p k))) x y
-
-    pub posted-alike : NoneHas → Room (entered holds middle day old) later → Room (entered holds middle day fresh) later → OthersAlike (length before) (verdicts holds b day (before ++ old ∷ later)) (verdicts holds b day (before ++ fresh ∷ later))
-    posted-alike apart x y k other =
-        let vs = verdicts holds b day before in
-        ap (λ ws. nth ws k) (verdicts-append before (old ∷ later) b ∙ ap (λ ws. vs ++ judge holds middle day old ∷ ws) (later-same apart x y))
-        ∙ others-alike vs (judge holds middle day old) (judge holds middle day fresh) (verdicts holds (entered holds middle day fresh) day later) k (λ e. other (e ∙ length-verdicts before b))
-        ∙ sym (ap (λ ws. nth ws k) (verdicts-append before (fresh ∷ later) b))
-
     pub checked-alike : OthersAlike (length before) (map (judge holds b day) (before ++ old ∷ later)) (map (judge holds b day) (before ++ fresh ∷ later))
     checked-alike k other =
         ap (λ ws. nth ws k) (map-append (judge holds b day) before (old ∷ later))

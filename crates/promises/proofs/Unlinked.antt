@@ -11,34 +11,24 @@ use Rattle.std.specs.declared.option.Option.the-variants.{Some, None}
 use Rattle.std.specs.shelf.Lists.{All}
 use Rattle.std.specs.shelf.Maps.{nth}
 use Rattle.std.proofs.shelf.Elements.{all-weaker}
-use Rattle.std.proofs.shelf.Lists.{length-append}
 use Rattle.std.proofs.shelf.Tests.{both-ways, cases-order}
 use Rattle.bytes.specs.Classes.{Bytes}
 use Rattle.layout.specs.declared.pair.Pair.{Pair}
-use Rattle.file.specs.Records.{records, isDetail, many, transactions, transactionsOf}
-use Rattle.book.specs.Meaning.{BookMeaning, samePair, freeEntries, freeLines}
+use Rattle.book.specs.Meaning.{BookMeaning, samePair}
 use Rattle.transaction.specs.declared.verdict.Verdict.{Verdict}
 use Rattle.transaction.specs.Checks.{Holds}
-use Rattle.transaction.specs.Details.{sumOf}
 use Rattle.promises.specs.Held.{at}
 use Rattle.promises.specs.Judging.{judge}
 use Rattle.promises.specs.Entering.{entered, verdicts, after}
-use Rattle.promises.specs.Packets.{verdictAt}
-use Rattle.promises.specs.Calls.{postGate, posted}
-use Rattle.promises.specs.Related.{pairsIn, transactionCount, detailCount, Enough}
-use Rattle.promises.specs.Replaced.{Replaced, handed, Inside, Outside, PostLeavesUnlinked}
+use Rattle.promises.specs.Related.{pairsIn}
+use Rattle.promises.specs.Replaced.{Inside, Outside}
 use Rattle.promises.proofs.Tables.{samePair-is}
 use Rattle.promises.proofs.Frame.{all-left, all-right, entered-outside, Room, Alike, judge-alike, entered-alike, room-next}
-use Rattle.promises.proofs.Items.{same-at}
-use Rattle.promises.proofs.OneReplaced.{packed, was, is, nth-front}
-use Rattle.promises.proofs.Posts.{gate-opens, opened-has}
-use Rattle.promises.proofs.Replaces.{verdicts-append, length-verdicts, room-behind}
+use Rattle.promises.proofs.Replaces.{verdicts-append, length-verdicts}
 
-some-is : {X : Type 0} (x y : X) → _≡_ {A = Option X} (Some x) (Some y) → x ≡ y
-some-is x y h = cc
-
-none-is : {X : Type 0} (y : X) → _≡_ {A = Option X} None (Some y) → ⊥
-none-is y h = let z : _≡_ {A = ℕ} 0 1 = cc in absurd (omega arith)
+-- the transaction at a place is outside
+abbrev pub At : Holds → (Pair → Bool) → List (List Bytes) → ℕ → Type 0
+At holds group ts k = (t : List Bytes) → nth ts k ≡ Some t → Outside holds group t
 
 module _ (holds : Holds) (day : ℕ) (group : Pair → Bool) where
   abbrev Spared : Pair → Type 0
@@ -61,14 +51,18 @@ module _ (holds : Holds) (day : ℕ) (group : Pair → Bool) where
   next-alike b c t ts alike (inr o) x y = entered-alike holds Spared day b c t alike (judge-alike holds Spared day b c t ts ts alike o x y)
 
   later : (ts : List (List Bytes)) (b c : BookMeaning) → Alike holds Spared day b c → All (λ t. Inside holds group t ⊎ Outside holds group t) ts → Room b ts → Room c ts →
-      (k : ℕ) (t : List Bytes) → nth ts k ≡ Some t → Outside holds group t → nth (verdicts holds b day ts) k ≡ nth (verdicts holds c day ts) k
-  later [] b c alike h x y k t e o = refl
-  later (u ∷ us) b c alike h x y zero t e o =
-      ap Some (judge-alike holds Spared day b c u us us alike (subst (Outside holds group) (sym (some-is u t e)) o) x y)
-  later (u ∷ us) b c alike h x y (suc k) t e o =
-      later us (entered holds b day u) (entered holds c day u) (next-alike b c u us alike (h .0) x y) (h .1) (room-next holds Spared day b u us x) (room-next holds Spared day c u us y) k t e o
+      (k : ℕ) → At holds group ts k → nth (verdicts holds b day ts) k ≡ nth (verdicts holds c day ts) k
+  later [] b c alike h x y k out = refl
+  later (u ∷ us) b c alike h x y zero out = ap Some (judge-alike holds Spared day b c u us us alike (out u refl) x y)
+  later (u ∷ us) b c alike h x y (suc k) out =
+      later us (entered holds b day u) (entered holds c day u) (next-alike b c u us alike (h .0) x y) (h .1) (room-next holds Spared day b u us x) (room-next holds Spared day c u us y) k out
 
--- behind as many as stand in front
+-- in front, and behind as many as stand in front
+nth-front : (vs ws us : List Verdict) (k : ℕ) → k < length vs → nth (vs ++ ws) k ≡ nth (vs ++ us) k
+nth-front [] ws us k h = absurd (omega arith)
+nth-front (v ∷ vs) ws us zero h = refl
+nth-front (v ∷ vs) ws us (suc k) h = nth-front vs ws us k (omega arith)
+
 nth-behind : {X : Type 0} (xs ys : List X) (k : ℕ) → nth (xs ++ ys) (length xs + k) ≡ nth ys k
 nth-behind [] ys k = ap (nth ys) (omega arith)
 nth-behind (x ∷ xs) ys k = ap (nth (x ∷ (xs ++ ys))) step ∙ nth-behind xs ys k
@@ -80,7 +74,7 @@ module _ (holds : Holds) (b : BookMeaning) (day : ℕ) (F R : List (List Bytes))
   abbrev middle : BookMeaning
   middle = after holds b day F
 
-  front-same : (k : ℕ) → k < length F → nth (verdicts holds b day (F ++ old ∷ R)) k ≡ nth (verdicts holds b day (F ++ new ∷ R)) k
+  pub front-same : (k : ℕ) → k < length F → nth (verdicts holds b day (F ++ old ∷ R)) k ≡ nth (verdicts holds b day (F ++ new ∷ R)) k
   front-same k h =
       let n = length-verdicts holds day F b in
       ap (λ vs. nth vs k) (verdicts-append holds day F (old ∷ R) b)
@@ -100,40 +94,19 @@ module _ (holds : Holds) (b : BookMeaning) (day : ℕ) (F R : List (List Bytes))
         let N = all-right (λ p. group p ≡ true) (pairsIn holds old) (pairsIn holds new) ours in
         entered-outside holds middle day old q (apart holds day group q (pairsIn holds old) h O) ∙ sym (entered-outside holds middle day new q (apart holds day group q (pairsIn holds new) h N))
 
-    behind-same : (j : ℕ) (t : List Bytes) → nth (F ++ old ∷ R) (length F + suc j) ≡ Some t → Outside holds group t → nth (verdicts holds b day (F ++ old ∷ R)) (length F + suc j) ≡ nth (verdicts holds b day (F ++ new ∷ R)) (length F + suc j)
-    behind-same j t e o =
+    behind-same : (j : ℕ) → At holds group (F ++ old ∷ R) (length F + suc j) → nth (verdicts holds b day (F ++ old ∷ R)) (length F + suc j) ≡ nth (verdicts holds b day (F ++ new ∷ R)) (length F + suc j)
+    behind-same j out =
         at-behind old j
-        ∙ later holds day group R (entered holds middle day old) (entered holds middle day new) start divided x y j t (sym (nth-behind F (old ∷ R) (suc j)) ∙ e) o
+        ∙ later holds day group R (entered holds middle day old) (entered holds middle day new) start divided x y j (λ t e. out t (nth-behind F (old ∷ R) (suc j) ∙ e))
         ∙ sym (at-behind new j)
 
-    pub unlinked : (k : ℕ) (t : List Bytes) → (k ≡ length F → ⊥) → nth (F ++ old ∷ R) k ≡ Some t → Outside holds group t → nth (verdicts holds b day (F ++ old ∷ R)) k ≡ nth (verdicts holds b day (F ++ new ∷ R)) k
-    unlinked k t other e o = go (cases-order k (length F))
+    pub unlinked : (k : ℕ) → (k ≡ length F → ⊥) → At holds group (F ++ old ∷ R) k → nth (verdicts holds b day (F ++ old ∷ R)) k ≡ nth (verdicts holds b day (F ++ new ∷ R)) k
+    unlinked k other out = go (cases-order k (length F))
       where
         go : (k ≡ length F) ⊎ ((k < length F) ⊎ (length F < k)) → nth (verdicts holds b day (F ++ old ∷ R)) k ≡ nth (verdicts holds b day (F ++ new ∷ R)) k
         go (inl s) = absurd (other s)
         go (inr (inl l)) = front-same k l
         go (inr (inr l)) =
-            let j = k - length F - 1 in
             let s : length F + suc (k - length F - 1) ≡ k = omega arith in
             subst (λ n. nth (verdicts holds b day (F ++ old ∷ R)) n ≡ nth (verdicts holds b day (F ++ new ∷ R)) n) s
-            (behind-same (k - length F - 1) t (ap (nth (F ++ old ∷ R)) s ∙ e) o)
-
-pub post-leaves-unlinked : PostLeavesUnlinked
-post-leaves-unlinked holds b file file′ day room room′ r group ours divided enough enough′ p q hp hq k t other at-k outside =
-    let x = handed file day room in let y = handed file′ day room′ in
-    let a = packed x (posted holds b x) (postGate b x) p hp in let c = packed y (posted holds b y) (postGate b y) q hq in
-    let opens = opened-has file (a .opened) (gate-opens b x (a .opened) (a .gate)) in
-    let opens′ = opened-has file′ (c .opened) (gate-opens b y (c .opened) (c .gate)) in
-    let F = transactionsOf (r .front) in let R = transactions (records (r .rest)) in
-    let e = enough .entries in let l = enough .lines in let e′ = enough′ .entries in let l′ = enough′ .lines in
-    let n : transactionCount file ≡ length (F ++ records (r .old) ∷ R) = ap length (opens ∙ was r) in
-    let m : detailCount file ≡ sumOf (many isDetail) (F ++ records (r .old) ∷ R) = ap (sumOf (many isDetail)) (opens ∙ was r) in
-    let n′ : transactionCount file′ ≡ length (F ++ records (r .new) ∷ R) = ap length (opens′ ∙ is r) in
-    let m′ : detailCount file′ ≡ sumOf (many isDetail) (F ++ records (r .new) ∷ R) = ap (sumOf (many isDetail)) (opens′ ∙ is r) in
-    let room-old = room-behind holds day b F (records (r .old)) R (omega arith) (omega arith) in
-    let room-new = room-behind holds day b F (records (r .new)) R (omega arith) (omega arith) in
-    let same : nth (posted holds b x) k ≡ nth (posted holds b y) k =
-    ap (λ ts. nth (verdicts holds b day ts) k) (was r)
-    ∙ unlinked holds b day F R (records (r .old)) (records (r .new)) group ours divided room-old room-new k t other (sym (ap (λ ts. nth ts k) (was r)) ∙ at-k) outside
-    ∙ sym (ap (λ ts. nth (verdicts holds b day ts) k) (is r)) in
-    ap (verdictAt k) (a .is) ∙ same-at (a .opened .stated) (length (records file)) (c .opened .stated) (length (records file′)) (posted holds b x) (posted holds b y) k same ∙ sym (ap (verdictAt k) (c .is))
+            (behind-same (k - length F - 1) (λ t e. out t (sym (ap (nth (F ++ old ∷ R)) s) ∙ e)))
