@@ -61,6 +61,14 @@ impl<'a, T: Keyed> Table<'a, T> {
         &self.rows[0..n]
     }
 
+    // How many more records the table can hold.
+    pub fn free(&self) -> usize
+        requires { ⌜ Fine (T·Keyed .code) (T·Keyed .sound) (now self) ⌝ }
+        ensures { λ r. ⌜ r ≡ now (self .entry) .places - now (self .entry) .n ⌝ }
+    {
+        self.places - self.n
+    }
+
     // What adding a record with this key would answer.
     pub fn admits(&self, row: &T) -> Result<(), Refusal>
         requires { ⌜ Fine (T·Keyed .code) (T·Keyed .sound) (now self) ⌝ }
@@ -69,10 +77,10 @@ impl<'a, T: Keyed> Table<'a, T> {
         match self.seek(row.key()) {
             Ok(_) => Err(Refusal::Held),
             Err(_) => {
-                if self.n >= self.places {
-                    Err(Refusal::Full)
-                } else {
+                if self.n < self.places {
                     Ok(())
+                } else {
+                    Err(Refusal::Full)
                 }
             }
         }
