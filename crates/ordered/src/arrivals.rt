@@ -56,9 +56,9 @@ impl<T: Keyed, const N: usize> Arrivals<T, N> {
         requires { ⌜ FineArrivals (T·Keyed .code) (T·Keyed .sound) (now self) ⌝ }
         ensures { λ r. ⌜ now r ≡ arrived (now (self .entry)) ⌝ }
     {
-        let n = self.n;
+        let end = self.n;
         let all = &self.rows[..];
-        &all[0..n]
+        &all[0..end]
     }
 
     // How many more records the table can hold.

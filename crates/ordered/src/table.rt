@@ -57,8 +57,8 @@ impl<'a, T: Keyed> Table<'a, T> {
         requires { ⌜ Fine (T·Keyed .code) (T·Keyed .sound) (now self) ⌝ }
         ensures { λ r. ⌜ now r ≡ shown (now (self .entry)) ⌝ }
     {
-        let n = self.n;
-        &self.rows[0..n]
+        let end = self.n;
+        &self.rows[0..end]
     }
 
     // How many more records the table can hold.
