@@ -4,6 +4,7 @@ pub mod Listed
 pub mod Passes
 pub mod Products
 pub mod Sets
+pub mod Touches
 pub mod Turns
 pub mod Walks
 pub mod Whole

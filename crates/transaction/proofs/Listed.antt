@@ -149,6 +149,12 @@ module _ (holds : Holds) (n : ℕ) (r : Bytes) where
   layout-listed : (l : Layout) → judged (causeVerdict n) (layoutLayer holds r l) ≡ verdict (checksUnder holds n r l)
   layout-listed l = layout-gives l .is
 
+  pub layout-accepts : (l : Layout) → layoutLayer holds r l ≡ Ok tt → verdict (checksUnder holds n r l) ≡ Accepted
+  layout-accepts l p = sym (layout-listed l) ∙ ap (judged (causeVerdict n)) p
+
+  pub layout-refuses : (l : Layout) (e : RecordCause) → layoutLayer holds r l ≡ Err e → verdict (checksUnder holds n r l) ≡ causeVerdict n e
+  layout-refuses l e p = sym (layout-listed l) ∙ ap (judged (causeVerdict n)) p
+
   any-listed : (l : Option Layout) → judged (causeVerdict n) (anyLayer holds r l) ≡ verdict (check (isSome l) 31 n 1 ∷ checksUnderAny holds n r l)
   any-listed None = refl
   any-listed (Some l) = layout-listed l

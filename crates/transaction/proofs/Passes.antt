@@ -33,7 +33,7 @@ then-first : {E : Type 0} (a b : Passed E) → andThen a b ≡ Ok tt → a ≡ O
 then-first (Ok x) b h = refl
 then-first (Err e) b h = h
 
-named-passes : {E F : Type 0} (f : E → F) (a : Passed E) → named f a ≡ Ok tt → a ≡ Ok tt
+pub named-passes : {E F : Type 0} (f : E → F) (a : Passed E) → named f a ≡ Ok tt → a ≡ Ok tt
 named-passes f (Ok x) h = refl
 named-passes f (Err e) h = absurd (err-no-ok h)
 
@@ -41,10 +41,13 @@ unless-passes : {E : Type 0} (t : Bool) (e : E) → unless t e ≡ Ok tt → t �
 unless-passes true e h = refl
 unless-passes false e h = absurd (err-no-ok h)
 
--- a header that passes has its layout's length
+-- a record that passes has its layout's length
+pub layout-long : (holds : Holds) (r : Bytes) (l : Layout) → layoutLayer holds r l ≡ Ok tt → length r ≡ widthOf l
+layout-long holds r l t = eqb-true (length r) (widthOf l) (unless-passes (eqb (length r) (widthOf l)) Length (then-first _ _ t))
+
 pub header-long : (holds : Holds) (set : SetId) (h : Bytes) (rs : List Bytes) → setLayer holds set h rs ≡ Ok tt → length h ≡ widthOf (headerOf set)
 header-long holds set h rs t =
-    eqb-true (length h) (widthOf (headerOf set)) (unless-passes (eqb (length h) (widthOf (headerOf set))) Length (then-first _ _ (named-passes (at 0) (layoutLayer holds h (headerOf set)) (named-passes Record (named (at 0) (layoutLayer holds h (headerOf set))) (then-first _ _ t)))))
+    layout-long holds h (headerOf set) (named-passes (at 0) (layoutLayer holds h (headerOf set)) (named-passes Record (named (at 0) (layoutLayer holds h (headerOf set))) (then-first _ _ t)))
 
 -- one check more in front, which passes
 pass : (c : Check) (cs : List Check) (v : Verdict) → Passes c → Counts cs v → Counts (c ∷ cs) v

@@ -4,3 +4,4 @@ pub mod Headers
 pub mod Checks
 pub mod Layers
 pub mod Sounds
+pub mod Pairs

@@ -4,6 +4,7 @@ pub mod entry_set;
 pub mod fault;
 pub mod header;
 mod own;
+pub mod pairs;
 pub mod record;
 pub mod sound;
 pub mod verdict;

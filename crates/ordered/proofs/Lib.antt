@@ -1,0 +1,5 @@
+pub mod Ascending
+pub mod Shift
+pub mod Arrive
+pub mod Every
+pub mod Adds
