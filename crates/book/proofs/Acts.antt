@@ -22,7 +22,7 @@ use Rattle.ordered.specs.Order.{ranks, every, ascends, held, entered, altered, 
 use Rattle.ordered.specs.declared.refusal.Refusal.{Refusal}
 use Rattle.ordered.specs.declared.refusal.Refusal.the-variants as table
 use Rattle.bytes.specs.Classes.{Bytes}
-use Rattle.book.specs.declared.pair.Pair.{Pair}
+use Rattle.layout.specs.declared.pair.Pair.{Pair}
 use Rattle.book.specs.declared.new_entry.NewEntry.{NewEntry}
 use Rattle.book.specs.declared.sought.Sought.{Sought}
 use Rattle.book.specs.declared.line.Line.{Line}

@@ -23,7 +23,7 @@ use Rattle.ordered.proofs.Ascending.{bytewise}
 use Rattle.ordered.proofs.Arrive.{eq-same, same-eq}
 use Rattle.bytes.specs.Classes.{Bytes, isDigit}
 use Rattle.bytes.specs.Values.{valueOf, digitOf}
-use Rattle.book.specs.declared.pair.Pair.{Pair}
+use Rattle.layout.specs.declared.pair.Pair.{Pair}
 use Rattle.book.specs.Lists.{before}
 use Rattle.book.specs.Meaning.{samePair, beforePair}
 use Rattle.book.specs.Stands.{isLineNumber}

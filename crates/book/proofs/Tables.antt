@@ -11,7 +11,7 @@ use Rattle.std.proofs.shelf.Equals.{sameBytes-decides}
 use Rattle.std.proofs.shelf.Tests.{and-parts}
 use Rattle.ordered.specs.Order.{ranks}
 use Rattle.bytes.specs.Classes.{Bytes}
-use Rattle.book.specs.declared.pair.Pair.{Pair}
+use Rattle.layout.specs.declared.pair.Pair.{Pair}
 use Rattle.book.specs.declared.entry_row.EntryRow.{EntryRow}
 use Rattle.book.specs.declared.line_row.LineRow.{LineRow}
 use Rattle.book.specs.declared.mark_row.MarkRow.{MarkRow}

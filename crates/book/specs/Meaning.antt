@@ -14,7 +14,7 @@ use Rattle.std.specs.shelf.Text.{sameBytes}
 use Rattle.bytes.specs.Classes.{Bytes}
 use Rattle.layout.specs.declared.set_id.SetId.{SetId}
 use Rattle.layout.specs.declared.set_id.SetId.the-variants.{Payment, Collection, ReceiverAdjustment, SenderAdjustment, ZeroDollar, PostSgl}
-use Rattle.book.specs.declared.pair.Pair.{Pair}
+use Rattle.layout.specs.declared.pair.Pair.{Pair}
 use Rattle.book.specs.declared.new_entry.NewEntry.{NewEntry}
 use Rattle.book.specs.declared.line.Line.{Line}
 use Rattle.book.specs.declared.mark.Mark.{Mark}

@@ -15,7 +15,7 @@ use Rattle.std.specs.shelf.Text.{sameBytes}
 use Rattle.bytes.specs.Classes.{Bytes}
 use Rattle.bytes.specs.Values.{valueOf}
 use Rattle.layout.specs.declared.set_id.SetId.the-variants.{Payment}
-use Rattle.book.specs.declared.pair.Pair.{Pair}
+use Rattle.layout.specs.declared.pair.Pair.{Pair}
 use Rattle.book.specs.declared.entry_row.EntryRow.{EntryRow}
 use Rattle.book.specs.declared.line_row.LineRow.{LineRow}
 use Rattle.book.specs.declared.mark_row.MarkRow.{MarkRow}

@@ -11,8 +11,8 @@ ghost use Rattle.book.specs.Told.{told, entryTold, soughtTold};
 ghost use Rattle.book.specs.Rows.{pairKey, entryOf, entryCode, soundEntry, unusedEntry, OpenAt};
 use super::entry::Entry;
 use super::new_entry::NewEntry;
-use super::pair::Pair;
 use super::sought::Sought;
+use layout::pair::Pair;
 use layout::set_id::SetId;
 use ordered::Keyed;
 
@@ -35,18 +35,16 @@ pub impl Keyed for EntryRow as EntryKeyed {
     }
 }
 
-impl Pair {
-    // The key of the entry under this pair.
-    pub fn key(&self) -> [u8; 13]
-        ensures is { λ r. ⌜ r ≡ pairKey (now (self .entry)) ⌝ }
-        ensures office { λ r. ⌜ length (now (self .entry) .office) ≡ 5 ⌝ }
-        ensures reference { λ r. ⌜ length (now (self .entry) .reference) ≡ 8 ⌝ }
-    {
-        let mut key = [0u8; 13];
-        key[5..13].copy_from_slice(&self.reference);
-        key[0..5].copy_from_slice(&self.office);
-        key
-    }
+// The key of the entry under a pair.
+pub fn entry_key(pair: &Pair) -> [u8; 13]
+    ensures is { λ r. ⌜ r ≡ pairKey (now (pair .entry)) ⌝ }
+    ensures office { λ r. ⌜ length (now (pair .entry) .office) ≡ 5 ⌝ }
+    ensures reference { λ r. ⌜ length (now (pair .entry) .reference) ≡ 8 ⌝ }
+{
+    let mut key = [0u8; 13];
+    key[5..13].copy_from_slice(&pair.reference);
+    key[0..5].copy_from_slice(&pair.office);
+    key
 }
 
 impl EntryRow {
@@ -74,7 +72,7 @@ impl EntryRow {
             total: new.total,
             left: new.total,
             day: new.day,
-            key: pair.key(),
+            key: entry_key(pair),
             set_id: new.set_id,
         }
     }

@@ -12,9 +12,9 @@ use self::line_number::LineNumber;
 use self::mark::Counts;
 use self::mark::Mark;
 use self::new_entry::NewEntry;
-use self::pair::Pair;
 use self::places::FreePlaces;
 use self::sought::Sought;
+use layout::pair::Pair;
 
 pub mod entry;
 pub mod entry_row;
@@ -25,7 +25,6 @@ pub mod line_row;
 pub mod mark;
 pub mod mark_row;
 pub mod new_entry;
-pub mod pair;
 pub mod places;
 pub mod sought;
 

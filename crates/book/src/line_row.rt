@@ -9,9 +9,10 @@ ghost use Rattle.book.specs.Meaning.{lineUnder, lineTold};
 ghost use Rattle.book.specs.Told.{lineNumberTold};
 ghost use Rattle.book.specs.Stands.{isLineNumber};
 ghost use Rattle.book.specs.Rows.{lineKey, lineOf, lineCode, soundLine, unusedLine};
+use super::entry_row::entry_key;
 use super::line::Line;
 use super::line_number::LineNumber;
-use super::pair::Pair;
+use layout::pair::Pair;
 use ordered::Keyed;
 
 #[derive(Clone, Copy)]
@@ -45,25 +46,23 @@ impl LineNumber {
     }
 }
 
-impl Pair {
-    // The key of the line with this number under this pair.
-    pub fn line_key(&self, number: LineNumber) -> [u8; 19]
-        ensures is { λ r. ⌜ r ≡ lineKey (now (self .entry)) (number .value) ⌝ }
-        ensures office { λ r. ⌜ length (now (self .entry) .office) ≡ 5 ⌝ }
-        ensures reference { λ r. ⌜ length (now (self .entry) .reference) ≡ 8 ⌝ }
-    {
-        let pair = self.key();
-        let n = number.value;
-        let mut key = [b'0'; 19];
-        key[0..13].copy_from_slice(&pair);
-        key[13] = 48 + (n / 10 / 10 / 10 / 10 / 10 % 10) as u8;
-        key[14] = 48 + (n / 10 / 10 / 10 / 10 % 10) as u8;
-        key[15] = 48 + (n / 10 / 10 / 10 % 10) as u8;
-        key[16] = 48 + (n / 10 / 10 % 10) as u8;
-        key[17] = 48 + (n / 10 % 10) as u8;
-        key[18] = 48 + (n % 10) as u8;
-        key
-    }
+// The key of the line with a number under a pair.
+pub fn line_key(pair: &Pair, number: LineNumber) -> [u8; 19]
+    ensures is { λ r. ⌜ r ≡ lineKey (now (pair .entry)) (number .value) ⌝ }
+    ensures office { λ r. ⌜ length (now (pair .entry) .office) ≡ 5 ⌝ }
+    ensures reference { λ r. ⌜ length (now (pair .entry) .reference) ≡ 8 ⌝ }
+{
+    let front = entry_key(pair);
+    let n = number.value;
+    let mut key = [b'0'; 19];
+    key[0..13].copy_from_slice(&front);
+    key[13] = 48 + (n / 10 / 10 / 10 / 10 / 10 % 10) as u8;
+    key[14] = 48 + (n / 10 / 10 / 10 / 10 % 10) as u8;
+    key[15] = 48 + (n / 10 / 10 / 10 % 10) as u8;
+    key[16] = 48 + (n / 10 / 10 % 10) as u8;
+    key[17] = 48 + (n / 10 % 10) as u8;
+    key[18] = 48 + (n % 10) as u8;
+    key
 }
 
 impl LineRow {
@@ -89,7 +88,7 @@ impl LineRow {
     {
         LineRow {
             amount: line.amount,
-            key: pair.line_key(number),
+            key: line_key(pair, number),
             sender: line.sender,
             receiver: line.receiver,
         }

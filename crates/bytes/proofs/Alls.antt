@@ -1,6 +1,6 @@
 -- A loop that joins a test of each element.
 use mathlib.Core.Path.{_≡_, refl, sym, ap, _∙_}
-use mathlib.Core.Bool.{Bool, true, false, _&&_, and-assoc, and-true}
+use mathlib.Core.Bool.{Bool, true, false, _&&_, _||_, not, and-assoc, and-true}
 use mathlib.Core.List.{List, [], _∷_}
 use Prim.Native.Nat.{ℕ, zero, suc, _+_, _<_, _≤_}
 use native.Mathlib.Nat.{not-suc-le-zero}
@@ -36,3 +36,8 @@ all-take p (suc n) (x ∷ xs) t = let q = and-parts (p x) (all p xs) t in and-fr
 -- a part of what passes
 pub all-part : (p : ℕ → Bool) (n a : ℕ) (xs : List ℕ) → all p xs ≡ true → all p (take n (drop a xs)) ≡ true
 all-part p n a xs t = all-take p n (drop a xs) (all-drop p a xs t)
+
+-- what is known of bytes is known of a part of them
+pub known-part : (known : Bool) (p : ℕ → Bool) (n a : ℕ) (xs ys : List ℕ) → ys ≡ take n (drop a xs) → (not known || all p xs) ≡ true → (not known || all p ys) ≡ true
+known-part true p n a xs ys e t = ap (all p) e ∙ all-part p n a xs t
+known-part false p n a xs ys e t = refl

@@ -5,9 +5,10 @@ use mathlib.Core.List.{List, []}
 use Prim.Native.Nat.{ℕ, _+_, _-_, _<_, _≤_, min}
 use native.Mathlib.Omega.{arith}
 use lib.ListN.{length, take, drop}
-use Rattle.std.proofs.shelf.Lists.{take-all, drop-all, length-drop}
+use Rattle.std.proofs.shelf.Lists.{take-all, drop-all, length-drop, length-take}
 use Rattle.std.proofs.shelf.Tests.{cases-lt}
 use Rattle.bytes.specs.Classes.{Bytes}
+use Rattle.bytes.specs.Parts.{columns}
 
 cut-off : (n : ℕ) (xs : Bytes) → take (min n (length xs)) xs ≡ take n xs
 cut-off n xs =
@@ -26,3 +27,7 @@ clamped xs a n i m p q =
     (λ (h : a < length xs). ap (λ k. take n (drop k xs)) (omega arith))
     (λ (h : length xs ≤ a). ap (take n) (drop-all i xs (omega arith) ∙ sym (drop-all a xs h)))
     (cases-lt a (length xs))
+
+-- columns that a record has
+pub columns-length : (first n : ℕ) (xs : Bytes) → 1 ≤ first → first + n ≤ length xs + 1 → length (columns first n xs) ≡ n
+columns-length first n xs h k = simp (length-take, length-drop) (omega arith)

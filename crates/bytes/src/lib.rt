@@ -2,4 +2,6 @@
 pub mod class;
 pub mod line;
 pub mod part;
+#[cfg(test)]
+mod tests;
 pub mod value;

@@ -3,9 +3,11 @@ ghost use mathlib.Core.Bool.{true, not, _||_};
 ghost use mathlib.Core.Path.{_≡_};
 ghost use denote.Ref.{now};
 ghost use Rattle.bytes.specs.Classes.{all, isPrintable, typeA};
+ghost use Rattle.bytes.specs.Parts.{columns};
 use crate::class::Printables;
 use crate::class::each;
 use crate::class::every;
+use crate::part::columns_of;
 
 // What one pass over a record has shown is kept, so that its text fields need only their first byte.
 #[derive(Clone, Copy)]
@@ -41,10 +43,27 @@ impl<'a> Line<'a> {
         self.bytes
     }
 
+    // The columns from `first` on, `n` of them, or as many of them as there are.
+    pub fn columns(self, first: usize, n: usize) -> Line<'a>
+        ensures { λ r. ⌜ now (r .bytes) ≡ columns first n (now (self .entry .bytes)) ⌝ }
+    {
+        Line {
+            bytes: columns_of(self.bytes, first, n),
+            printable: self.printable,
+        }
+    }
+
+    // Whether a pass has shown that the bytes are printable.
+    pub fn is_known_printable(self) -> bool
+        ensures { λ r. ⌜ r ≡ self .entry .printable ⌝ }
+    {
+        self.printable
+    }
+
     pub fn is_printable(self) -> bool
         ensures { λ r. ⌜ r ≡ all isPrintable (now (self .entry .bytes)) ⌝ }
     {
-        self.printable || every::<Printables>(self.bytes)
+        self.is_known_printable() || every::<Printables>(self.bytes)
     }
 
     pub fn is_type_a(self) -> bool

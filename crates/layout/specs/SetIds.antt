@@ -6,6 +6,7 @@ use lib.Chars.{codes}
 use Rattle.std.specs.declared.option.Option.{Option}
 use Rattle.std.specs.declared.option.Option.the-variants.{Some, None}
 use Rattle.std.specs.shelf.Text.{sameBytes}
+use Rattle.bytes.specs.Parts.{columns}
 use Rattle.layout.specs.declared.set_id.SetId.{SetId}
 use Rattle.layout.specs.declared.set_id.SetId.the-variants.{Payment, Collection, ReceiverAdjustment, SenderAdjustment, ZeroDollar, PostSgl}
 
@@ -26,3 +27,7 @@ setIdOf bs =
     (cond (sameBytes bs (codes "829")) (Some SenderAdjustment)
     (cond (sameBytes bs (codes "835")) (Some ZeroDollar)
     (cond (sameBytes bs (codes "840")) (Some PostSgl) None)))))
+
+-- of a header; one below 39 bytes has none
+abbrev pub setIdIn : List ℕ → Option SetId
+setIdIn header = setIdOf (columns 37 3 header)

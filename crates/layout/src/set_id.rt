@@ -1,7 +1,8 @@
 // The Set ID of a transaction: what kind of bill it is. Header columns 37 to 39 write it.
 ghost use mathlib.Core.Path.{_≡_};
-ghost use Rattle.layout.specs.SetIds.{numberOf, setIdOf};
+ghost use Rattle.layout.specs.SetIds.{numberOf, setIdOf, setIdIn};
 use bytes::class::is_same;
+use bytes::part::columns_of;
 
 #[derive(Clone, Copy, PartialEq, Eq, Debug)]
 pub enum SetId {
@@ -33,6 +34,13 @@ impl SetId {
         } else {
             None
         }
+    }
+
+    // The Set ID of a transaction, by its header. A header below 39 bytes has none.
+    pub fn in_header(header: &[u8]) -> Option<SetId>
+        ensures { λ r. ⌜ r ≡ setIdIn (now (header .entry)) ⌝ }
+    {
+        SetId::of(columns_of(header, 37, 3))
     }
 
     pub fn number(self) -> u16

@@ -17,9 +17,9 @@ use book::mark::Counts;
 use book::mark::Mark;
 use book::mark_row::MarkRow;
 use book::new_entry::NewEntry;
-use book::pair::Pair;
 use book::places::FreePlaces;
 use book::sought::Sought;
+use layout::pair::Pair;
 
 mod tables;
 

@@ -11,6 +11,7 @@ ghost use Rattle.lent_book.specs.Lent.{lentMeans, FineTables};
 use book::entry::Entry;
 use book::entry_row::EntryKeyed;
 use book::entry_row::EntryRow;
+use book::entry_row::entry_key;
 use book::entry_row::first_open;
 use book::fault::BookFault;
 use book::fault::as_book;
@@ -19,15 +20,16 @@ use book::line::Line;
 use book::line_number::LineNumber;
 use book::line_row::LineKeyed;
 use book::line_row::LineRow;
+use book::line_row::line_key;
 use book::mark::Counts;
 use book::mark::Mark;
 use book::mark_row::MarkKeyed;
 use book::mark_row::MarkRow;
 use book::mark_row::sum_counts;
 use book::new_entry::NewEntry;
-use book::pair::Pair;
 use book::places::FreePlaces;
 use book::sought::Sought;
+use layout::pair::Pair;
 use ordered::table::Table;
 
 // How many places a lent book uses at most.
@@ -91,7 +93,7 @@ impl<'a> Tables<'a> {
         ensures after { λ _. ⌜ lentMeans (now (self .exit)) ≡ taking (lentMeans (now (self .entry))) (now (pair .entry)) amount ⌝ }
         ensures fine { λ _. ⌜ FineTables (now (self .exit)) ⌝ }
     {
-        let key = pair.key();
+        let key = entry_key(pair);
         match self.entries.seek(&key) {
             Err(_) => Err(BookFault::Absent),
             Ok(at) => {
@@ -124,7 +126,7 @@ impl<'a> Tables<'a> {
         requires { ⌜ FineTables (now self) ⌝ }
         ensures { λ r. ⌜ mapped told r ≡ mapped entryTold (entryAt (lentMeans (now (self .entry))) (now (pair .entry))) ⌝ }
     {
-        let key = pair.key();
+        let key = entry_key(pair);
         match self.entries.get(&key) {
             Some(row) => row.entry(),
             None => None,
@@ -135,7 +137,7 @@ impl<'a> Tables<'a> {
         requires { ⌜ FineTables (now self) ⌝ }
         ensures { λ r. ⌜ r ≡ mapped lineTold (lineAt (lentMeans (now (self .entry))) (now (pair .entry)) (number .value)) ⌝ }
     {
-        let key = pair.line_key(number);
+        let key = line_key(pair, number);
         match self.lines.get(&key) {
             Some(row) => Some(row.line()),
             None => None,

@@ -11,9 +11,9 @@ use book::line_number::LineNumber;
 use book::mark::Counts;
 use book::mark::Mark;
 use book::new_entry::NewEntry;
-use book::pair::Pair;
 use book::places::FreePlaces;
 use book::sought::Sought;
+use layout::pair::Pair;
 
 mod tables;
 

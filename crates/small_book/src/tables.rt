@@ -10,6 +10,7 @@ ghost use Rattle.small_book.specs.Small.{smallMeans, FineTables};
 use book::entry::Entry;
 use book::entry_row::EntryKeyed;
 use book::entry_row::EntryRow;
+use book::entry_row::entry_key;
 use book::entry_row::first_open;
 use book::fault::BookFault;
 use book::fault::as_book;
@@ -18,15 +19,16 @@ use book::line::Line;
 use book::line_number::LineNumber;
 use book::line_row::LineKeyed;
 use book::line_row::LineRow;
+use book::line_row::line_key;
 use book::mark::Counts;
 use book::mark::Mark;
 use book::mark_row::MarkKeyed;
 use book::mark_row::MarkRow;
 use book::mark_row::sum_counts;
 use book::new_entry::NewEntry;
-use book::pair::Pair;
 use book::places::FreePlaces;
 use book::sought::Sought;
+use layout::pair::Pair;
 use ordered::arrivals::Arrivals;
 
 #[derive(Drop)]
@@ -79,7 +81,7 @@ impl Tables {
         ensures after { λ _. ⌜ smallMeans (now (self .exit)) ≡ taking (smallMeans (now (self .entry))) (now (pair .entry)) amount ⌝ }
         ensures fine { λ _. ⌜ FineTables (now (self .exit)) ⌝ }
     {
-        let key = pair.key();
+        let key = entry_key(pair);
         match self.entries.seek(&key) {
             None => Err(BookFault::Absent),
             Some(at) => {
@@ -111,7 +113,7 @@ impl Tables {
         requires { ⌜ FineTables (now self) ⌝ }
         ensures { λ r. ⌜ mapped told r ≡ mapped entryTold (entryAt (smallMeans (now (self .entry))) (now (pair .entry))) ⌝ }
     {
-        let key = pair.key();
+        let key = entry_key(pair);
         match self.entries.get(&key) {
             Some(row) => row.entry(),
             None => None,
@@ -122,7 +124,7 @@ impl Tables {
         requires { ⌜ FineTables (now self) ⌝ }
         ensures { λ r. ⌜ r ≡ mapped lineTold (lineAt (smallMeans (now (self .entry))) (now (pair .entry)) (number .value)) ⌝ }
     {
-        let key = pair.line_key(number);
+        let key = line_key(pair, number);
         match self.lines.get(&key) {
             Some(row) => Some(row.line()),
             None => None,

@@ -9,10 +9,10 @@ use Rattle.book.proofs.entry_row.EntryRow.new.Needs as need
 pub returns : need.returns
 returns c =
     let e = c .args .new in
-    let w = ap pairOf (c .key .ensures .is) ∙ pair-whole (c .args .pair .now) (c .key .ensures .office) in
+    let w = ap pairOf (c .entry-key .ensures .is) ∙ pair-whole (c .args .pair .now) (c .entry-key .ensures .office) in
     record {
       means = λ i. record { pair = w i; set-id = e .«set_id»; day = e .day; total = e .total; open-amount = e .total };
-      key = c .key .ensures .is;
+      key = c .entry-key .ensures .is;
       sound = le-leb (e .total) (e .total) (le-refl (e .total));
-      office = c .key .ensures .office;
+      office = c .entry-key .ensures .office;
     }

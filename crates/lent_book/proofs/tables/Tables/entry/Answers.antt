@@ -15,14 +15,14 @@ pub returns-in-Some : need.returns-in-Some
 returns-in-Some c =
     let b = c .args .self .now in
     let x = c .in-Some .row in
-    let h = c .in-Some .ensures tt ∙ ap (λ k. held ranks entryCode k (shown (b .entries))) (c .key-key .ensures .is) in
+    let h = c .in-Some .ensures tt ∙ ap (λ k. held ranks entryCode k (shown (b .entries))) (c .entry-key-key .ensures .is) in
     let s = held-every soundEntry entryCode (pairKey (c .args .pair .now)) (shown (b .entries)) x (c .pre .0 .3) (sym h) in
-    entry-told (shown (b .entries)) (shown (b .lines)) (shown (b .marks)) (b .entries .places) (b .lines .places) (b .marks .places) (c .pre .0 .3) (c .args .pair .now) (c .key-key .ensures .office)
+    entry-told (shown (b .entries)) (shown (b .lines)) (shown (b .marks)) (b .entries .places) (b .lines .places) (b .marks .places) (c .pre .0 .3) (c .args .pair .now) (c .entry-key-key .ensures .office)
     _ (Some x) h (c .entry .ensures ∙ ap (λ t. cond t (Some (entryTold (entryOf x))) None) s)
 
 pub returns-in-None : need.returns-in-None
 returns-in-None c =
     let b = c .args .self .now in
-    let h = c .in-None .ensures tt ∙ ap (λ k. held ranks entryCode k (shown (b .entries))) (c .key-key .ensures .is) in
-    entry-told (shown (b .entries)) (shown (b .lines)) (shown (b .marks)) (b .entries .places) (b .lines .places) (b .marks .places) (c .pre .0 .3) (c .args .pair .now) (c .key-key .ensures .office)
+    let h = c .in-None .ensures tt ∙ ap (λ k. held ranks entryCode k (shown (b .entries))) (c .entry-key-key .ensures .is) in
+    entry-told (shown (b .entries)) (shown (b .lines)) (shown (b .marks)) (b .entries .places) (b .lines .places) (b .marks .places) (c .pre .0 .3) (c .args .pair .now) (c .entry-key-key .ensures .office)
     None None h refl

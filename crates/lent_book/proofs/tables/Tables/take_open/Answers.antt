@@ -17,8 +17,8 @@ use Rattle.lent_book.proofs.tables.Tables.take_open.Needs as need
 pub returns-in-Err : need.returns-in-Err
 returns-in-Err c =
     let b = c .args .self .now in
-    let none = ap (λ k. held ranks entryCode k (shown (b .entries))) (sym (c .key-key .ensures .is)) ∙ c .in-Err .ensures tt .none in
-    let d = take-absent (shown (b .entries)) (shown (b .lines)) (shown (b .marks)) (b .entries .places) (b .lines .places) (b .marks .places) (c .pre .0 .3) (c .args .pair .now) (c .key-key .ensures .office) (c .args .amount) none in
+    let none = ap (λ k. held ranks entryCode k (shown (b .entries))) (sym (c .entry-key-key .ensures .is)) ∙ c .in-Err .ensures tt .none in
+    let d = take-absent (shown (b .entries)) (shown (b .lines)) (shown (b .marks)) (b .entries .places) (b .lines .places) (b .marks .places) (c .pre .0 .3) (c .args .pair .now) (c .entry-key-key .ensures .office) (c .args .amount) none in
     record { answer = d .answer-is; after = d .after-is; fine = c .pre }
 
 pub returns-then-not-may-take : need.returns-then-not-may-take
@@ -29,8 +29,8 @@ returns-then-not-may-take c =
     let n = shown-many entryOf entryCode soundEntry (b .entries) (c .pre .0) in
     let l : at < b .entries .n = omega (arith, f .within) in
     let seen = getD-take (b .entries .n) (b .entries .rows .now) at blankEntry l in
-    let h = ap (λ k. held ranks entryCode k (shown (b .entries))) (sym (c .key-key .ensures .is)) ∙ (f .is blankEntry ∙ ap Some seen) in
-    let d = take-above (shown (b .entries)) (shown (b .lines)) (shown (b .marks)) (b .entries .places) (b .lines .places) (b .marks .places) (c .pre .0 .3) (c .args .pair .now) (c .key-key .ensures .office) (c .args .amount) _ h (sym (c .may-take .ensures) ∙ c .if-not-may-take .taken) in
+    let h = ap (λ k. held ranks entryCode k (shown (b .entries))) (sym (c .entry-key-key .ensures .is)) ∙ (f .is blankEntry ∙ ap Some seen) in
+    let d = take-above (shown (b .entries)) (shown (b .lines)) (shown (b .marks)) (b .entries .places) (b .lines .places) (b .marks .places) (c .pre .0 .3) (c .args .pair .now) (c .entry-key-key .ensures .office) (c .args .amount) _ h (sym (c .may-take .ensures) ∙ c .if-not-may-take .taken) in
     record { answer = d .answer-is; after = d .after-is; fine = c .pre }
 
 pub put-over-requires : need.put-over-requires
@@ -58,11 +58,11 @@ returns-else-not-may-take c =
     let n = shown-many entryOf entryCode soundEntry (b .entries) (c .pre .0) in
     let l : at < b .entries .n = omega (arith, f .within) in
     let seen = getD-take (b .entries .n) (b .entries .rows .now) at blankEntry l in
-    let k = sym (c .key-key .ensures .is) in
+    let k = sym (c .entry-key-key .ensures .is) in
     let h = ap (λ k. held ranks entryCode k (shown (b .entries))) k ∙ (f .is blankEntry ∙ ap Some seen) in
     let over = c .put-over .ensures in
     let changed = over .after ∙ (ap (λ y. set (shown (b .entries)) at (lessRow (c .args .amount) y)) (sym seen) ∙ (sym (f .change (lessRow (c .args .amount)) blankEntry) ∙ ap (λ q. altered ranks entryCode q (lessRow (c .args .amount)) (shown (b .entries))) (sym k))) in
-    let d = take-done (shown (b .entries)) (shown (b .lines)) (shown (b .marks)) (b .entries .places) (b .lines .places) (b .marks .places) (c .pre .0 .3) (c .args .pair .now) (c .key-key .ensures .office) (c .args .amount) _ h
+    let d = take-done (shown (b .entries)) (shown (b .lines)) (shown (b .marks)) (b .entries .places) (b .lines .places) (b .marks .places) (c .pre .0 .3) (c .args .pair .now) (c .entry-key-key .ensures .office) (c .args .amount) _ h
     (shown (c .put-over .last .self)) (sym (c .may-take .ensures) ∙ c .if-not-may-take .left) changed in
     record {
       answer = d .answer-is;

@@ -1,0 +1,5 @@
+pub mod Checks
+pub mod Facts
+pub mod Faults
+pub mod Shapes
+pub mod Symbols

@@ -1,0 +1,4 @@
+pub mod Feeds
+pub mod Headers
+pub mod Lines
+pub mod Tallies

@@ -1,0 +1,4 @@
+pub mod Records
+pub mod Lengths
+pub mod Openings
+pub mod Counts

@@ -1,0 +1,5 @@
+mod Bits
+mod Order
+mod Search
+mod Texts
+pub mod Widths

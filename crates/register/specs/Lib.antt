@@ -1,0 +1,4 @@
+pub mod Faults
+pub mod Fives
+pub mod Keys
+pub mod Maps

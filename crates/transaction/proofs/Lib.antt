@@ -1,0 +1,10 @@
+pub mod Chains
+pub mod Firsts
+pub mod Listed
+pub mod Passes
+pub mod Products
+pub mod Sets
+pub mod Touches
+pub mod Turns
+pub mod Walks
+pub mod Whole

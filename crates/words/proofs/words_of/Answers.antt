@@ -1,0 +1,4 @@
+use Rattle.words.proofs.words_of.Needs as need
+
+pub returns : need.returns
+returns c = cc
