@@ -8,7 +8,7 @@ use book::line_row::LineRow;
 use book::mark::Mark;
 use book::mark_row::MarkRow;
 use book::new_entry::NewEntry;
-use book::pair::Pair;
+use layout::pair::Pair;
 use layout::set_id::SetId;
 use lent_book::LentBook;
 use lent_book::LentBookBook;

@@ -8,7 +8,7 @@ use Rattle.std.specs.declared.option.Option.{Option}
 use Rattle.std.specs.declared.option.Option.the-variants.{Some, None}
 use Rattle.std.proofs.shelf.Tests.{and-parts, and-right, ne-eqb, cond-false}
 use Rattle.ordered.specs.Order.{every}
-use Rattle.book.specs.declared.pair.Pair.{Pair}
+use Rattle.layout.specs.declared.pair.Pair.{Pair}
 use Rattle.book.specs.Lists.{find}
 use Rattle.book.specs.Meaning.{LineHeld, samePair, underLine, lineAt, lineTold}
 use Rattle.book.specs.Stands.{isLineNumber, numbered}
