@@ -1,0 +1,16 @@
+pub mod Tables
+pub mod Orders
+pub mod Effect
+pub mod Judged
+pub mod Frame
+pub mod Pairs
+pub mod Posts
+pub mod Swaps
+pub mod SameBook
+pub mod Passing
+pub mod Told
+pub mod Cuts
+pub mod Replaces
+pub mod Items
+pub mod OneReplaced
+pub mod Lasts

@@ -1,0 +1,14 @@
+pub mod Held
+pub mod Against
+pub mod Own
+pub mod Judging
+pub mod Entering
+pub mod Packets
+pub mod Calls
+pub mod Accounts
+pub mod Related
+pub mod Tells
+pub mod EitherOrder
+pub mod Replaced
+pub mod Lasting
+pub mod ReadBack

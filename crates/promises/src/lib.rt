@@ -1,0 +1,54 @@
+// What may be concluded from the packets of a book's calls. The calls are defined in specs/; the functions here do nothing,
+// and each has one promise as its contract, so that a check of the crate asks for its proof.
+ghost use Rattle.promises.specs.EitherOrder.{EitherOrder};
+ghost use Rattle.promises.specs.Lasting.{FirstCounts, NeverGrows, PostedOnce, RejectedLeaveNothing};
+ghost use Rattle.promises.specs.Replaced.{CheckLeavesOthers, PostLeavesOthers};
+ghost use Rattle.promises.specs.Tells.{ShowTells, NeverPassTotal};
+
+// Accepted exactly if every check passes, on its own and against the book; else the first failing check is the verdict.
+pub fn first_failing_check_counts()
+    ensures { λ _. ⌜ FirstCounts ⌝ }
+{}
+
+// For every pair show answers an entry exactly if an accepted transaction has the pair as its own, and then only one has;
+// the entry has its Set ID, day and total; the open amount and the accepted adjustments add up to the total. Count answers
+// how many were accepted and rejected.
+pub fn show_tells_what_was_accepted()
+    ensures { λ _. ⌜ ShowTells ⌝ }
+{}
+
+// Two files with different File ID Numbers and no pair in common, with places enough for both: each gets the same packet or
+// file code in either order, and the book afterwards is the same.
+pub fn unrelated_files_in_either_order()
+    ensures { λ _. ⌜ EitherOrder ⌝ }
+{}
+
+// One transaction of a file replaced, neither file being refused: check gives every other one the same verdict.
+pub fn replaced_one_leaves_others_checked()
+    ensures { λ _. ⌜ CheckLeavesOthers ⌝ }
+{}
+
+// So does post, with places enough, where no other transaction has a pair of the old one or of the new one.
+pub fn replaced_one_leaves_others_posted()
+    ensures { λ _. ⌜ PostLeavesOthers ⌝ }
+{}
+
+// The accepted adjustments of a transaction never pass its total.
+pub fn adjustments_never_pass_total()
+    ensures { λ _. ⌜ NeverPassTotal ⌝ }
+{}
+
+// A file that was posted is refused with 6 from then on, and changes nothing.
+pub fn file_is_posted_once()
+    ensures { λ _. ⌜ PostedOnce ⌝ }
+{}
+
+// An entry stays, and its open amount never grows.
+pub fn open_amount_never_grows()
+    ensures { λ _. ⌜ NeverGrows ⌝ }
+{}
+
+// Without its rejected transactions a file leaves the same entries and lines.
+pub fn rejected_leave_nothing()
+    ensures { λ _. ⌜ RejectedLeaveNothing ⌝ }
+{}
