@@ -14,3 +14,7 @@ pub mod Replaces
 pub mod Items
 pub mod OneReplaced
 pub mod Lasts
+pub mod Fits
+pub mod ReadsBack
+pub mod Facts
+pub mod Acts

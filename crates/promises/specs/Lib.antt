@@ -3,6 +3,7 @@ pub mod Against
 pub mod Own
 pub mod Judging
 pub mod Entering
+pub mod Acting
 pub mod Packets
 pub mod Calls
 pub mod Accounts
@@ -12,3 +13,4 @@ pub mod EitherOrder
 pub mod Replaced
 pub mod Lasting
 pub mod ReadBack
+pub mod Facts

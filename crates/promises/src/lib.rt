@@ -1,7 +1,10 @@
 // What may be concluded from the packets of a book's calls. The calls are defined in specs/; the functions here do nothing,
 // and each has one promise as its contract, so that a check of the crate asks for its proof.
+ghost use Rattle.promises.specs.Acting.{ActionsDo};
 ghost use Rattle.promises.specs.EitherOrder.{EitherOrder};
+ghost use Rattle.promises.specs.Facts.{Facts};
 ghost use Rattle.promises.specs.Lasting.{FirstCounts, NeverGrows, PostedOnce, RejectedLeaveNothing};
+ghost use Rattle.promises.specs.ReadBack.{VerdictsFit, ReadsBack};
 ghost use Rattle.promises.specs.Replaced.{CheckLeavesOthers, PostLeavesOthers};
 ghost use Rattle.promises.specs.Tells.{ShowTells, NeverPassTotal};
 
@@ -51,4 +54,24 @@ pub fn open_amount_never_grows()
 // Without its rejected transactions a file leaves the same entries and lines.
 pub fn rejected_leave_nothing()
     ensures { λ _. ⌜ RejectedLeaveNothing ⌝ }
+{}
+
+// A refusal's code is above 0, and the numbers of a verdict fit their fields in a packet.
+pub fn verdicts_fit_packets()
+    ensures { λ _. ⌜ VerdictsFit ⌝ }
+{}
+
+// A packet has room, and the file's numbers and its verdicts can be read back from it.
+pub fn packets_read_back()
+    ensures { λ _. ⌜ ReadsBack ⌝ }
+{}
+
+// Worked facts: days, open amounts, lines, the smallest packet, and a chain of transactions.
+pub fn worked_facts()
+    ensures { λ _. ⌜ Facts ⌝ }
+{}
+
+// No action of the book is refused for an accepted transaction, so that the actions do what is defined.
+pub fn actions_enter_accepted()
+    ensures { λ _. ⌜ ActionsDo ⌝ }
 {}
