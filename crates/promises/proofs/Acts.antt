@@ -1,31 +1,42 @@
 -- No action is refused for an accepted transaction: its entry, its lines one by one, its amount.
-use mathlib.Core.Path.{_≡_, refl, sym, ap, _∙_, subst}
+use mathlib.Core.Path.{_≡_, refl, sym, ap, ap₂, _∙_, subst}
 use mathlib.Core.Bool.{Bool, true, false, cond, not, _&&_}
 use mathlib.Core.List.{List, [], _∷_}
 use Prim.Native.Nat.{ℕ, suc, _+_, _-_, _≤_, _<_}
 use native.Mathlib.Omega.{arith}
 use lib.Dec.{eqb, leb}
-use lib.ListN.{length}
+use lib.ListN.{length, drop}
 use Rattle.std.specs.Options.{isSome}
 use Rattle.std.specs.declared.option.Option.{Option}
 use Rattle.std.specs.declared.option.Option.the-variants.{Some, None}
 use Rattle.std.specs.declared.result.Result.the-variants.{Ok, Err}
+use Rattle.std.proofs.shelf.Lists.{length-drop}
 use Rattle.std.proofs.shelf.Tests.{ne-eqb, le-leb, and-parts, true≢false}
 use Rattle.layout.specs.declared.pair.Pair.{Pair}
 use Rattle.layout.specs.declared.set_id.SetId.{SetId}
-use Rattle.book.specs.Meaning.{BookMeaning, EntryHeld, LineHeld, samePair, fresh, lineUnder, entryAt, lineAt, freeEntries, freeLines, lineFirst}
-use Rattle.book.specs.Actions.{Answer, admits, enter, enterLine, takeOpen, entryAnswer, lineAnswer, takeAnswerAt, takeAnswer, unlessRefused, entering, enteringLine, taking}
+use Rattle.file.specs.Records.{records, transactionsOf}
+use Rattle.file.proofs.Tallies.{records-few}
+use Rattle.book.specs.Lists.{find}
+use Rattle.book.specs.Meaning.{BookMeaning, EntryHeld, LineHeld, samePair, underMark, markUnder, markAt, freeMarks, fresh, lineUnder, entryAt, lineAt, freeEntries, freeLines, lineFirst}
+use Rattle.book.specs.Actions.{Answer, admits, enter, enterLine, takeOpen, entryAnswer, lineAnswer, takeAnswerAt, takeAnswer, markAnswer, setMark, unlessRefused, entering, enteringLine, taking}
 use Rattle.transaction.specs.declared.header.Transaction.{Transaction}
+use Rattle.transaction.specs.declared.verdict.Verdict.{Verdict}
 use Rattle.transaction.specs.declared.verdict.Verdict.the-variants.{Accepted}
 use Rattle.transaction.specs.Details.{DetailRead}
 use Rattle.transaction.specs.Headers.{setIdOf, totalOf, ownPair}
 use Rattle.transaction.specs.Verdicts.{verdict}
 use Rattle.promises.specs.Own.{linesOf, noLines}
 use Rattle.promises.specs.Judging.{bookChecks}
-use Rattle.promises.specs.Entering.{entryOf, lineOf, enterLines, enterOwn, takenFrom, takeAt, apply}
-use Rattle.promises.specs.Acting.{enteringLines, enteringOwn, takingAt, acting, ActionsDo}
+use Rattle.promises.specs.Entering.{entryOf, lineOf, enterLines, enterOwn, takenFrom, takeAt, apply, after}
+use Rattle.promises.specs.Packets.{isAccepted, acceptedCount, rejectedCount}
+use Rattle.promises.specs.Calls.{posted, countsOf, postBookAt}
+use Rattle.promises.specs.Acting.{enteringLines, enteringOwn, takingAt, acting, ActionsDo, MarkIsSet}
 use Rattle.promises.proofs.Tables.{samePair-self, samePair-is, length-place}
 use Rattle.promises.proofs.Effect.{line-placed, entry-placed, own-is}
+use Rattle.promises.proofs.Frame.{after-used}
+use Rattle.promises.proofs.Posts.{gate-opens, gate-free}
+use Rattle.promises.proofs.ReadsBack.{short-opening, transactions-few, accepted-few}
+use Rattle.promises.proofs.Replaces.{length-verdicts}
 use Rattle.promises.proofs.Passing.{own-vacant, taken-open, Vacant, Open, some-not}
 
 -- lines from number n on are not held, whatever stands below n
@@ -102,3 +113,31 @@ actions-do b day t ds ok =
     ∙ taken-goes b (enterOwn day t ds (ownPair t) b) (totalOf t) (takenFrom t)
     (λ o e. let r = taken-open b day t ds ok o e in
     record { entry = r .entry; stands = still-open b day t ds (ownPair t) o (r .entry) (own-vacant b day t ds ok) (r .stands); enough = r .enough })
+
+-- ---- the mark
+
+rejected-few : (vs : List Verdict) → rejectedCount vs ≤ length vs
+rejected-few [] = omega arith
+rejected-few (v ∷ vs) = go (isAccepted v) (rejected-few vs)
+  where
+    go : (t : Bool) → rejectedCount vs ≤ length vs → cond t 0 1 + rejectedCount vs ≤ suc (length vs)
+    go true h = omega arith
+    go false h = omega arith
+
+pub mark-is-set : MarkIsSet
+mark-is-set holds b x o ok =
+    let ts = transactionsOf (x .file) in
+    let c = after holds b (x .day) ts in
+    let vs = posted holds b x in
+    let m = markUnder (o .id) (countsOf vs) in
+    let used = after-used holds (x .day) ts b in
+    let free = gate-free b x o ok in
+    let held : isSome (markAt c (o .id)) ≡ false = ap (λ ms. isSome (find (underMark (o .id)) ms)) (used .marks) ∙ free .0 in
+    let place : eqb (freeMarks c) 0 ≡ false = ap₂ (λ n ms. eqb (n - length ms) 0) (used .mark-places) (used .marks) ∙ free .1 in
+    let short = short-opening (x .file) o (gate-opens b x o ok) .0 in
+    let f = records-few (x .file) in let d = length-drop 2 (records (x .file)) in let t = transactions-few (drop 2 (records (x .file))) in
+    let n = length-verdicts holds (x .day) ts b in
+    let a = accepted-few vs in let r = rejected-few vs in
+    let la = le-leb (acceptedCount vs) 16777216 (omega arith) in let lr = le-leb (rejectedCount vs) 16777216 (omega arith) in
+    let answer : markAnswer c m ≡ Ok tt = simp (held, place, la, lr) in
+    ap (λ w. unlessRefused w (setMark m c) c) answer ∙ sym (ap (postBookAt holds b x) ok)

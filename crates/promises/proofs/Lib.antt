@@ -18,3 +18,4 @@ pub mod Fits
 pub mod ReadsBack
 pub mod Facts
 pub mod Acts
+pub mod Promised

@@ -2,7 +2,7 @@
 use mathlib.Core.Path.{_≡_, refl, sym, ap, ap₂, _∙_, subst}
 use mathlib.Core.Bool.{Bool, true, false, cond}
 use mathlib.Core.List.{List, [], _∷_, _++_, map}
-use Prim.Native.Nat.{ℕ, _+_, _*_, _≤_}
+use Prim.Native.Nat.{ℕ, zero, suc, _+_, _*_, _≤_, _<_}
 use native.Mathlib.Omega.{arith}
 use lib.ListN.{length}
 use Rattle.std.specs.declared.result.Result.{Result}
@@ -22,11 +22,11 @@ use Rattle.promises.specs.Entering.{entered, verdicts, after}
 use Rattle.promises.specs.Packets.{packetOf, verdictAt}
 use Rattle.promises.specs.Calls.{Handed, Answer, tooSmall, checkOpened, checkGate, postGate, checked, posted, answerWith, checkAnswer, postAnswer}
 use Rattle.promises.specs.Related.{transactionsIn, transactionCount, detailCount, Enough}
-use Rattle.promises.specs.Replaced.{Whole, Replaced, placeOf, others, NoOtherHas, SameBut, handed, CheckLeavesOthers, PostLeavesOthers}
+use Rattle.promises.specs.Replaced.{Whole, Replaced, placeOf, others, NoOtherHas, SameBut, handed, CheckLeavesOthers, PostLeavesOthers, PostLeavesEarlier}
 use Rattle.promises.proofs.Cuts.{between}
 use Rattle.promises.proofs.Items.{same-at}
 use Rattle.promises.proofs.Posts.{no-ok, gate-opens, opened-has}
-use Rattle.promises.proofs.Replaces.{OthersAlike, posted-alike, checked-alike, room-behind}
+use Rattle.promises.proofs.Replaces.{OthersAlike, posted-alike, checked-alike, room-behind, verdicts-append, length-verdicts}
 
 -- an answer that is a packet is of an opening, and has the verdicts
 pub record Packed (x : Handed) (vs : List Verdict) (g : Result Opening ℕ) (p : Bytes) : Type 0 where
@@ -102,3 +102,23 @@ post-leaves-others holds b file file′ day room room′ r apart enough enough�
     let opens = opened-has file (a .opened) (gate-opens b x (a .opened) (a .gate)) in
     let opens′ = opened-has file′ (c .opened) (gate-opens b y (c .opened) (c .gate)) in
     same-packets x y (posted holds b x) (posted holds b y) (postGate b x) (postGate b y) (placeOf r) (posts r holds b day opens opens′ apart enough enough′) p q hp hq
+
+-- what stands in front is not touched
+nth-front : (vs ws us : List Verdict) (k : ℕ) → k < length vs → nth (vs ++ ws) k ≡ nth (vs ++ us) k
+nth-front [] ws us k h = absurd (omega arith)
+nth-front (v ∷ vs) ws us zero h = refl
+nth-front (v ∷ vs) ws us (suc k) h = nth-front vs ws us k (omega arith)
+
+pub post-leaves-earlier : PostLeavesEarlier
+post-leaves-earlier holds b file file′ day room room′ r p q hp hq k before =
+    let x = handed file day room in let y = handed file′ day room′ in
+    let a = packed x (posted holds b x) (postGate b x) p hp in let c = packed y (posted holds b y) (postGate b y) q hq in
+    let F = transactionsOf (r .front) in let R = transactions (records (r .rest)) in
+    let n = length-verdicts holds day F b in
+    let same : nth (posted holds b x) k ≡ nth (posted holds b y) k =
+    ap (λ ts. nth (verdicts holds b day ts) k) (was r)
+    ∙ ap (λ vs. nth vs k) (verdicts-append holds day F (records (r .old) ∷ R) b)
+    ∙ nth-front (verdicts holds b day F) (verdicts holds (after holds b day F) day (records (r .old) ∷ R)) (verdicts holds (after holds b day F) day (records (r .new) ∷ R)) k (omega arith)
+    ∙ sym (ap (λ vs. nth vs k) (verdicts-append holds day F (records (r .new) ∷ R) b))
+    ∙ sym (ap (λ ts. nth (verdicts holds b day ts) k) (is r)) in
+    ap (verdictAt k) (a .is) ∙ same-at (a .opened .stated) (length (records file)) (c .opened .stated) (length (records file′)) (posted holds b x) (posted holds b y) k same ∙ sym (ap (verdictAt k) (c .is))

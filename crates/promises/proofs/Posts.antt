@@ -65,6 +65,16 @@ gate-opens b x o h = go (opening (x .file)) h
     go (Err f) k = absurd (no-ok o (codeOf f) k)
     go (Ok i) k = again i (past (isSome (markAt b (i .id))) (tooSmall x) (eqb (freeMarks b) 0) i k)
 
+-- its File ID Number is not marked, and there is a place for its mark
+pub gate-free : (b : BookMeaning) (x : Handed) (o : Opening) → postGate b x ≡ Ok o → (isSome (markAt b (o .id)) ≡ false) × (eqb (freeMarks b) 0 ≡ false)
+gate-free b x o h = go (isSome (markAt b (o .id))) refl (tooSmall x) (eqb (freeMarks b) 0) refl (sym (ap (postOpened b x) (gate-opens b x o h)) ∙ h)
+  where
+    go : (u : Bool) → isSome (markAt b (o .id)) ≡ u → (v w : Bool) → eqb (freeMarks b) 0 ≡ w → cond {A = Result Opening ℕ} u (Err 6) (cond v (Err 7) (cond w (Err 8) (Ok o))) ≡ Ok o → (isSome (markAt b (o .id)) ≡ false) × (eqb (freeMarks b) 0 ≡ false)
+    go true e v w f k = absurd (no-ok o 6 k)
+    go false e true w f k = absurd (no-ok o 7 k)
+    go false e false true f k = absurd (no-ok o 8 k)
+    go false e false false f k = (e, f)
+
 -- then its transactions are those that it has
 pub opened-has : (file : Bytes) (o : Opening) → opening file ≡ Ok o → transactionsIn file ≡ transactionsOf file
 opened-has file o h = ap (λ r. opensTo r (transactionsOf file)) h

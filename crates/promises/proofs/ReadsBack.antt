@@ -74,7 +74,7 @@ verdicts-back n (v ∷ vs) h =
     (ap verdictFrom (take-at (verdictItem n v) (verdictItems (suc n) vs) 16 (sixteen n v)) ∙ verdict-back n v (h .0))
     (ap (verdictsFrom (length vs)) (drop-at (verdictItem n v) (verdictItems (suc n) vs) 16 (sixteen n v)) ∙ verdicts-back (suc n) vs (h .1))
 
-accepted-few : (vs : List Verdict) → acceptedCount vs ≤ length vs
+pub accepted-few : (vs : List Verdict) → acceptedCount vs ≤ length vs
 accepted-few [] = omega arith
 accepted-few (v ∷ vs) = go (isAccepted v) (accepted-few vs)
   where
@@ -96,7 +96,7 @@ packet-back s f vs hs hf hn fits =
 
 -- ---- a file that opens is short, and so are its parts
 
-short-opening : (file : Bytes) (o : Opening) → opening file ≡ Ok o → (length file ≤ 16777216) × (o ≡ opened (recordAt 2 file))
+pub short-opening : (file : Bytes) (o : Opening) → opening file ≡ Ok o → (length file ≤ 16777216) × (o ≡ opened (recordAt 2 file))
 short-opening file o h = go (ltb longest (length file)) refl (not (endsInFeed file)) (not (isFileIdentifier (recordAt 1 file))) (not (isBatchHeader (recordAt 2 file))) (not (isHeader (recordAt 3 file))) h
   where
     go : (u : Bool) → ltb longest (length file) ≡ u → (v w x y : Bool) →
@@ -146,7 +146,7 @@ until-few (r ∷ rs) = go (isHeader r) (until-few rs)
     go true h = omega arith
     go false h = omega arith
 
-transactions-few : (rs : List Bytes) → length (transactions rs) ≤ length rs
+pub transactions-few : (rs : List Bytes) → length (transactions rs) ≤ length rs
 transactions-few [] = omega arith
 transactions-few (r ∷ rs) = go (isHeader r) (transactions-few rs)
   where

@@ -37,7 +37,7 @@ sum-append f [] ys = omega arith
 sum-append f (x ∷ xs) ys = let h = sum-append f xs ys in omega arith
 
 module _ (holds : Holds) (day : ℕ) where
-  verdicts-append : (ts us : List (List Bytes)) (b : BookMeaning) → verdicts holds b day (ts ++ us) ≡ verdicts holds b day ts ++ verdicts holds (after holds b day ts) day us
+  pub verdicts-append : (ts us : List (List Bytes)) (b : BookMeaning) → verdicts holds b day (ts ++ us) ≡ verdicts holds b day ts ++ verdicts holds (after holds b day ts) day us
   verdicts-append [] us b = refl
   verdicts-append (t ∷ ts) us b = ap (λ vs. judge holds b day t ∷ vs) (verdicts-append ts us (entered holds b day t))
 

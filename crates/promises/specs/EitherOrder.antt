@@ -37,9 +37,10 @@ pub record SameEitherWay (holds : Holds) (b : BookMeaning) (x y : Handed) (betwe
   pub shown : (p : Pair) → showAnswer (run holds b (inOrder x between y)) p ≡ showAnswer (run holds b (inOrder y between′ x)) p
   pub counted : countAnswer (run holds b (inOrder x between y)) ≡ countAnswer (run holds b (inOrder y between′ x))
 
+abbrev pub EitherOrderOn : Holds → BookMeaning → Type 0
+EitherOrderOn holds b = (x y : Handed) (between between′ : List Call) → All IsNoPost between → All IsNoPost between′ →
+    Unrelated holds (x .file) (y .file) → Enough b (x .file ∷ y .file ∷ []) → SameEitherWay holds b x y between between′
+
 -- of every book, and so of every book that calls led to
 abbrev pub EitherOrder : Type 0
-EitherOrder = (holds : Holds) (b : BookMeaning) (x y : Handed) (between between′ : List Call) →
-    All IsNoPost between → All IsNoPost between′ →
-    Unrelated holds (x .file) (y .file) → Enough b (x .file ∷ y .file ∷ []) →
-    SameEitherWay holds b x y between between′
+EitherOrder = (holds : Holds) (b : BookMeaning) → EitherOrderOn holds b

@@ -13,4 +13,5 @@ pub mod EitherOrder
 pub mod Replaced
 pub mod Lasting
 pub mod ReadBack
+pub mod Promises
 pub mod Facts

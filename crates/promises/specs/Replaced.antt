@@ -2,7 +2,7 @@
 use mathlib.Core.Path.{_≡_}
 use mathlib.Core.Bool.{Bool, true}
 use mathlib.Core.List.{List, [], _∷_, _++_}
-use Prim.Native.Nat.{ℕ, _≤_}
+use Prim.Native.Nat.{ℕ, _≤_, _<_}
 use lib.Dec.{eqb}
 use lib.ListN.{length}
 use Rattle.std.specs.declared.result.Result.the-variants.{Ok}
@@ -64,12 +64,25 @@ abbrev pub handed : Bytes → ℕ → ℕ → Handed
 handed file day room = record { file = file; day = day; room = room }
 
 -- under check, whatever they share
-abbrev pub CheckLeavesOthers : Type 0
-CheckLeavesOthers = (holds : Holds) (b : BookMeaning) (file file′ : Bytes) (day room room′ : ℕ) (r : Replaced file file′) →
+abbrev pub CheckLeavesOn : Holds → BookMeaning → Type 0
+CheckLeavesOn holds b = (file file′ : Bytes) (day room room′ : ℕ) (r : Replaced file file′) →
     SameBut (placeOf r) (checkAnswer holds b (handed file day room)) (checkAnswer holds b (handed file′ day room′))
 
 -- under post, with places enough, where no other transaction has a pair of the old one or of the new one
-abbrev pub PostLeavesOthers : Type 0
-PostLeavesOthers = (holds : Holds) (b : BookMeaning) (file file′ : Bytes) (day room room′ : ℕ) (r : Replaced file file′) →
+abbrev pub PostLeavesOn : Holds → BookMeaning → Type 0
+PostLeavesOn holds b = (file file′ : Bytes) (day room room′ : ℕ) (r : Replaced file file′) →
     NoOtherHas holds r → Enough b (file ∷ []) → Enough b (file′ ∷ []) →
     SameBut (placeOf r) (postAnswer holds b (handed file day room)) (postAnswer holds b (handed file′ day room′))
+
+-- of every book, and so of every book that calls led to
+abbrev pub CheckLeavesOthers : Type 0
+CheckLeavesOthers = (holds : Holds) (b : BookMeaning) → CheckLeavesOn holds b
+
+abbrev pub PostLeavesOthers : Type 0
+PostLeavesOthers = (holds : Holds) (b : BookMeaning) → PostLeavesOn holds b
+
+-- and under post the transactions before the replaced one keep their verdicts in any case
+abbrev pub PostLeavesEarlier : Type 0
+PostLeavesEarlier = (holds : Holds) (b : BookMeaning) (file file′ : Bytes) (day room room′ : ℕ) (r : Replaced file file′) (p p′ : Bytes) →
+    postAnswer holds b (handed file day room) ≡ Ok p → postAnswer holds b (handed file′ day room′) ≡ Ok p′ →
+    (k : ℕ) → k < placeOf r → verdictAt k p ≡ verdictAt k p′

@@ -1,11 +1,12 @@
 // What may be concluded from the packets of a book's calls. The calls are defined in specs/; the functions here do nothing,
 // and each has one promise as its contract, so that a check of the crate asks for its proof.
-ghost use Rattle.promises.specs.Acting.{ActionsDo};
+ghost use Rattle.promises.specs.Acting.{ActionsDo, MarkIsSet};
 ghost use Rattle.promises.specs.EitherOrder.{EitherOrder};
 ghost use Rattle.promises.specs.Facts.{Facts};
 ghost use Rattle.promises.specs.Lasting.{FirstCounts, NeverGrows, PostedOnce, RejectedLeaveNothing};
+ghost use Rattle.promises.specs.Promises.{Promises};
 ghost use Rattle.promises.specs.ReadBack.{VerdictsFit, ReadsBack};
-ghost use Rattle.promises.specs.Replaced.{CheckLeavesOthers, PostLeavesOthers};
+ghost use Rattle.promises.specs.Replaced.{CheckLeavesOthers, PostLeavesOthers, PostLeavesEarlier};
 ghost use Rattle.promises.specs.Tells.{ShowTells, NeverPassTotal};
 
 // Accepted exactly if every check passes, on its own and against the book; else the first failing check is the verdict.
@@ -74,4 +75,19 @@ pub fn worked_facts()
 // No action of the book is refused for an accepted transaction, so that the actions do what is defined.
 pub fn actions_enter_accepted()
     ensures { λ _. ⌜ ActionsDo ⌝ }
+{}
+
+// Nor is the mark refused that a post sets at its end.
+pub fn mark_is_set()
+    ensures { λ _. ⌜ MarkIsSet ⌝ }
+{}
+
+// Under post the transactions before a replaced one keep their verdicts in any case.
+pub fn replaced_one_leaves_earlier_posted()
+    ensures { λ _. ⌜ PostLeavesEarlier ⌝ }
+{}
+
+// The three promises of one run of calls, on a book that other calls led to.
+pub fn promises_of_a_run()
+    ensures { λ _. ⌜ Promises ⌝ }
 {}
