@@ -36,7 +36,7 @@ use Rattle.promises.specs.Against.{adjusts}
 use Rattle.promises.specs.Judging.{judge}
 use Rattle.promises.specs.Entering.{entryOf, apply, applyIf, entered, verdicts, after}
 use Rattle.promises.specs.Calls.{Handed, tooSmall, postOpened, postGate, posted, answerWith, countsOf, postAnswer, postBookAt, postBook, Call, checking, posting, showing, seeking, counting, called, run, showAnswer}
-use Rattle.promises.specs.Accounts.{Taken, acceptedIn}
+use Rattle.promises.specs.Accounts.{Acceptance, acceptedIn}
 use Rattle.promises.specs.Tells.{isPair, owners, adjusted, EntryOf, Shown, Tells, NeverPassTotal}
 use Rattle.promises.specs.Lasting.{Lasts, NeverGrows, PostedOnce, acceptedOnes, RejectedLeaveNothing}
 use Rattle.promises.proofs.Tables.{same-is, same-self, before-self, samePair-self, find-place}
@@ -210,7 +210,7 @@ never-pass-total holds e l m cs p t has own =
     let mine : Has (owners p ts) t = all-has (λ y. isPair p (ownPair (y .what)) ≡ true → Has (owners p ts) y) ts t (kept-has (λ y. isPair p (ownPair (y .what))) ts) has is in
     go (showAnswer (run holds (emptyBook e l m) cs) p) (show-tells holds e l m cs .shown p) mine
   where
-    one : (u : Taken) → Has (u ∷ []) t → t ≡ u
+    one : (u : Acceptance) → Has (u ∷ []) t → t ≡ u
     one u h = all-has (λ z. z ≡ u) (u ∷ []) t (refl, tt) h
 
     go : (x : Option EntryTold) → Shown p (acceptedIn holds (emptyBook e l m) cs) x → Has (owners p (acceptedIn holds (emptyBook e l m) cs)) t → adjusted p (acceptedIn holds (emptyBook e l m) cs) ≤ totalOf (t .what)

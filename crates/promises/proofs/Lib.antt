@@ -14,7 +14,9 @@ pub mod Replaces
 pub mod Items
 pub mod OneReplaced
 pub mod Lasts
+pub mod Listing
 pub mod Fits
+pub mod NoPairs
 pub mod ReadsBack
 pub mod Facts
 pub mod Acts

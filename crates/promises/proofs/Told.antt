@@ -34,7 +34,7 @@ use Rattle.promises.specs.Judging.{bookChecks, judge}
 use Rattle.promises.specs.Entering.{entryOf, takenFrom, apply, entered, verdicts, after}
 use Rattle.promises.specs.Packets.{isAccepted, acceptedCount, rejectedCount}
 use Rattle.promises.specs.Calls.{Handed, postGate, posted, postBookAt, postBook, Call, checking, posting, showing, seeking, counting, called, run, showAnswer, countAnswer}
-use Rattle.promises.specs.Accounts.{Taken, takenIf, takenOf, acceptedAt, rejectedAt, acceptedBy, rejectedBy, acceptedIn, rejectedIn}
+use Rattle.promises.specs.Accounts.{Acceptance, acceptedIf, acceptedAmong, acceptedAt, rejectedAt, acceptedBy, rejectedBy, acceptedIn, rejectedIn}
 use Rattle.promises.specs.Tells.{isPair, owners, adjustment, adjusted, EntryOf, Shown, Tells, ShowTells, NeverPassTotal}
 use Rattle.transaction.specs.Verdicts.{verdict}
 use Rattle.promises.proofs.Tables.{samePair-is, samePair-self}
@@ -45,18 +45,18 @@ use Rattle.promises.proofs.Passing.{own-vacant, taken-open, Open, Vacant, some
 use Rattle.promises.proofs.Posts.{added, count-posted}
 
 -- one pair: what stands in the book, what was accepted
-abbrev Kept : Pair → List Taken → Option EntryHeld → Type 0
+abbrev Kept : Pair → List Acceptance → Option EntryHeld → Type 0
 Kept p ts None = (owners p ts ≡ []) × (adjusted p ts ≡ 0)
-Kept p ts (Some e) = (t : Taken) × (owners p ts ≡ t ∷ []) × EntryOf p (entryTold e) t ts
+Kept p ts (Some e) = (t : Acceptance) × (owners p ts ≡ t ∷ []) × EntryOf p (entryTold e) t ts
 
-owners-more : (p : Pair) (ts : List Taken) (t : Taken) → owners p (ts ++ t ∷ []) ≡ owners p ts ++ cond (isPair p (ownPair (t .what))) (t ∷ []) []
+owners-more : (p : Pair) (ts : List Acceptance) (t : Acceptance) → owners p (ts ++ t ∷ []) ≡ owners p ts ++ cond (isPair p (ownPair (t .what))) (t ∷ []) []
 owners-more p ts t = kept-by-append (λ u. isPair p (ownPair (u .what))) ts (t ∷ [])
 
 sum-push : {X : Type 0} (f : X → ℕ) (xs : List X) (x : X) → sumOf f (xs ++ x ∷ []) ≡ sumOf f xs + f x
 sum-push f [] x = omega arith
 sum-push f (y ∷ ys) x = let h = sum-push f ys x in omega arith
 
-adjusted-more : (p : Pair) (ts : List Taken) (t : Taken) → adjusted p (ts ++ t ∷ []) ≡ adjusted p ts + adjustment p (t .what)
+adjusted-more : (p : Pair) (ts : List Acceptance) (t : Acceptance) → adjusted p (ts ++ t ∷ []) ≡ adjusted p ts + adjustment p (t .what)
 adjusted-more p ts t = sum-push (λ u. adjustment p (u .what)) ts t
 
 -- the entry under p after an accepted transaction
@@ -66,20 +66,20 @@ next p day t w a x = cond a (mapped (less (totalOf t)) (cond w (Some (fresh p (e
 abbrev pub takes : Pair → Transaction → Bool
 takes p t = adjusts (setIdOf t) && isPair p (originalPair t)
 
-kept-more : (p : Pair) (ts : List Taken) (day : ℕ) (t : Transaction) (w a : Bool) → isPair p (ownPair t) ≡ w → takes p t ≡ a →
+kept-more : (p : Pair) (ts : List Acceptance) (day : ℕ) (t : Transaction) (w a : Bool) → isPair p (ownPair t) ≡ w → takes p t ≡ a →
     (x : Option EntryHeld) → (w ≡ true → x ≡ None) → (a ≡ true → (e : EntryHeld) × (x ≡ Some e) × (totalOf t ≤ e .open-amount)) →
     Kept p ts x → Kept p (ts ++ record { day = day; what = t } ∷ []) (next p day t w a x)
 kept-more p ts day t true true mine its x vacant opens k =
     let o = opens refl in let n = vacant refl in absurd (some-not (o .0) (sym n ∙ o .1))
 kept-more p ts day t true false mine its (Some e) vacant opens k = absurd (some-not e (sym (vacant refl)))
 kept-more p ts day t true false mine its None vacant opens k =
-    let u : Taken = record { day = day; what = t } in
+    let u : Acceptance = record { day = day; what = t } in
     let o : owners p (ts ++ u ∷ []) ≡ u ∷ [] = owners-more p ts u ∙ simp (k .0, mine) in
     let j : adjusted p (ts ++ u ∷ []) ≡ 0 = adjusted-more p ts u ∙ simp (k .1, its) in
     (u, o, record { set-id = refl; day = refl; total = refl; open-amount = omega arith })
 kept-more p ts day t false true mine its None vacant opens k = let o = opens refl in absurd (some-not (o .0) (o .1))
 kept-more p ts day t false true mine its (Some e) vacant opens k =
-    let u : Taken = record { day = day; what = t } in
+    let u : Acceptance = record { day = day; what = t } in
     let f = opens refl in
     let is : e ≡ f .0 = cc (f .1) in
     let h = k .2 in
@@ -89,10 +89,10 @@ kept-more p ts day t false true mine its (Some e) vacant opens k =
     let q = h .open-amount in
     (k .0, o, record { set-id = h .set-id; day = h .day; total = h .total; open-amount = omega arith })
 kept-more p ts day t false false mine its None vacant opens k =
-    let u : Taken = record { day = day; what = t } in
+    let u : Acceptance = record { day = day; what = t } in
     (owners-more p ts u ∙ simp (k .0, mine), adjusted-more p ts u ∙ simp (k .1, its))
 kept-more p ts day t false false mine its (Some e) vacant opens k =
-    let u : Taken = record { day = day; what = t } in
+    let u : Acceptance = record { day = day; what = t } in
     let h = k .2 in
     let o : owners p (ts ++ u ∷ []) ≡ k .0 ∷ [] = owners-more p ts u ∙ simp (k .1, mine) in
     let j : adjusted p (ts ++ u ∷ []) ≡ adjusted p ts + 0 = adjusted-more p ts u ∙ simp its in
@@ -139,78 +139,78 @@ vacant-at b day t ds p h e = own-vacant b day t ds h p (is-pair p (ownPair t) e)
 pub open-at : (b : BookMeaning) (day : ℕ) (t : Transaction) (ds : List DetailRead) (p : Pair) → verdict (bookChecks b day t ds) ≡ Accepted → takes p t ≡ true → (e : EntryHeld) × (entryAt b p ≡ Some e) × (totalOf t ≤ e .open-amount)
 open-at b day t ds p h e = let o = taken-open b day t ds h p (is-pair p (takenFrom t) (taken-is p t ∙ e)) in (o .entry, o .stands, o .enough)
 
-kept-applied : (b : BookMeaning) (day : ℕ) (t : Transaction) (ds : List DetailRead) (ts : List Taken) (p : Pair) → verdict (bookChecks b day t ds) ≡ Accepted → Kept p ts (entryAt b p) → Kept p (ts ++ record { day = day; what = t } ∷ []) (entryAt (apply day t ds b) p)
+kept-applied : (b : BookMeaning) (day : ℕ) (t : Transaction) (ds : List DetailRead) (ts : List Acceptance) (p : Pair) → verdict (bookChecks b day t ds) ≡ Accepted → Kept p ts (entryAt b p) → Kept p (ts ++ record { day = day; what = t } ∷ []) (entryAt (apply day t ds b) p)
 kept-applied b day t ds ts p h k =
-    let u : Taken = record { day = day; what = t } in
+    let u : Acceptance = record { day = day; what = t } in
     let P : Option EntryHeld → Type 0 = λ x. Kept p (ts ++ u ∷ []) x in
     subst P (sym (entry-next b day t ds p))
     (kept-more p ts day t (isPair p (ownPair t)) (takes p t) refl refl (entryAt b p) (vacant-at b day t ds p h) (open-at b day t ds p h) k)
 
-pub KeptAll : BookMeaning → List Taken → Type 0
+pub KeptAll : BookMeaning → List Acceptance → Type 0
 KeptAll b ts = (p : Pair) → Kept p ts (entryAt b p)
 
 module _ (holds : Holds) where
   -- the accepted ones, one by one
-  abbrev takenOne : BookMeaning → ℕ → List Bytes → List Taken
-  takenOne b day rs = takenIf (judge holds b day rs) day (readingIn (firstOf rs))
+  abbrev acceptedOne : BookMeaning → ℕ → List Bytes → List Acceptance
+  acceptedOne b day rs = acceptedIf (judge holds b day rs) day (readingIn (firstOf rs))
 
-  abbrev takenAll : BookMeaning → ℕ → List (List Bytes) → List Taken
-  takenAll b day ts = takenOf day (verdicts holds b day ts) ts
+  abbrev acceptedAll : BookMeaning → ℕ → List (List Bytes) → List Acceptance
+  acceptedAll b day ts = acceptedAmong day (verdicts holds b day ts) ts
 
-  kept-one : (b : BookMeaning) (day : ℕ) (rs : List Bytes) (ts : List Taken) → KeptAll b ts → KeptAll (entered holds b day rs) (ts ++ takenOne b day rs)
+  kept-one : (b : BookMeaning) (day : ℕ) (rs : List Bytes) (ts : List Acceptance) → KeptAll b ts → KeptAll (entered holds b day rs) (ts ++ acceptedOne b day rs)
   unfolding KeptAll
   kept-one b day rs ts h p = go (done holds b day rs)
     where
-      go : Done holds b day rs → Kept p (ts ++ takenOne b day rs) (entryAt (entered holds b day rs) p)
+      go : Done holds b day rs → Kept p (ts ++ acceptedOne b day rs) (entryAt (entered holds b day rs) p)
       go (nothing c r k v e) =
-          let none : ts ++ takenOne b day rs ≡ ts = ap (λ w. ts ++ takenIf w day (readingIn (firstOf rs))) v ∙ append-nil ts in
+          let none : ts ++ acceptedOne b day rs ≡ ts = ap (λ w. ts ++ acceptedIf w day (readingIn (firstOf rs))) v ∙ append-nil ts in
           subst (λ us. Kept p us (entryAt (entered holds b day rs) p)) (sym none) (subst (λ c. Kept p ts (entryAt c p)) (sym e) (h p))
       go (applied s v e) =
-          let one : takenOne b day rs ≡ record { day = day; what = s .what } ∷ [] = ap₂ (λ w o. takenIf w day o) v (s .reads) in
+          let one : acceptedOne b day rs ≡ record { day = day; what = s .what } ∷ [] = ap₂ (λ w o. acceptedIf w day o) v (s .reads) in
           subst (λ us. Kept p (ts ++ us) (entryAt (entered holds b day rs) p)) (sym one)
           (subst (λ c. Kept p (ts ++ record { day = day; what = s .what } ∷ []) (entryAt c p)) (sym e)
           (kept-applied b day (s .what) (detailsOf (othersOf rs)) ts p (book-passes holds b day rs (s .what) (s .reads) v) (h p)))
 
-  kept-after : (day : ℕ) (us : List (List Bytes)) (b : BookMeaning) (ts : List Taken) → KeptAll b ts → KeptAll (after holds b day us) (ts ++ takenAll b day us)
+  kept-after : (day : ℕ) (us : List (List Bytes)) (b : BookMeaning) (ts : List Acceptance) → KeptAll b ts → KeptAll (after holds b day us) (ts ++ acceptedAll b day us)
   kept-after day [] b ts h = rw append-nil h
   kept-after day (u ∷ us) b ts h =
-      rw (← append-assoc ts (takenOne b day u) (takenAll (entered holds b day u) day us)) (kept-after day us (entered holds b day u) (ts ++ takenOne b day u) (kept-one b day u ts h))
+      rw (← append-assoc ts (acceptedOne b day u) (acceptedAll (entered holds b day u) day us)) (kept-after day us (entered holds b day u) (ts ++ acceptedOne b day u) (kept-one b day u ts h))
 
-  kept-posted : (g : Result Opening ℕ) (b : BookMeaning) (x : Handed) (ts : List Taken) → KeptAll b ts → KeptAll (postBookAt holds b x g) (ts ++ acceptedAt holds b x g)
+  kept-posted : (g : Result Opening ℕ) (b : BookMeaning) (x : Handed) (ts : List Acceptance) → KeptAll b ts → KeptAll (postBookAt holds b x g) (ts ++ acceptedAt holds b x g)
   unfolding KeptAll
   kept-posted (Err c) b x ts h = rw append-nil h
   kept-posted (Ok o) b x ts h = kept-after (x .day) (transactionsOf (x .file)) b ts h
 
-  kept-called : (b : BookMeaning) (c : Call) (ts : List Taken) → KeptAll b ts → KeptAll (called holds b c) (ts ++ acceptedBy holds b c)
+  kept-called : (b : BookMeaning) (c : Call) (ts : List Acceptance) → KeptAll b ts → KeptAll (called holds b c) (ts ++ acceptedBy holds b c)
   kept-called b (checking x) ts h = rw append-nil h
   kept-called b (posting x) ts h = kept-posted (postGate b x) b x ts h
   kept-called b (showing p) ts h = rw append-nil h
   kept-called b (seeking o) ts h = rw append-nil h
   kept-called b counting ts h = rw append-nil h
 
-  kept-run : (cs : List Call) (b : BookMeaning) (ts : List Taken) → KeptAll b ts → KeptAll (run holds b cs) (ts ++ acceptedIn holds b cs)
+  kept-run : (cs : List Call) (b : BookMeaning) (ts : List Acceptance) → KeptAll b ts → KeptAll (run holds b cs) (ts ++ acceptedIn holds b cs)
   kept-run [] b ts h = rw append-nil h
   kept-run (c ∷ cs) b ts h =
       rw (← append-assoc ts (acceptedBy holds b c) (acceptedIn holds (called holds b c) cs)) (kept-run cs (called holds b c) (ts ++ acceptedBy holds b c) (kept-called b c ts h))
 
   -- counts
-  one-length : (b : BookMeaning) (day : ℕ) (rs : List Bytes) → length (takenOne b day rs) ≡ cond (isAccepted (judge holds b day rs)) 1 0
+  one-length : (b : BookMeaning) (day : ℕ) (rs : List Bytes) → length (acceptedOne b day rs) ≡ cond (isAccepted (judge holds b day rs)) 1 0
   one-length b day rs = go (done holds b day rs)
     where
-      go : Done holds b day rs → length (takenOne b day rs) ≡ cond (isAccepted (judge holds b day rs)) 1 0
-      go (nothing c r k v e) = ap (λ w. length (takenIf w day (readingIn (firstOf rs)))) v ∙ sym (ap (λ w. cond (isAccepted w) 1 0) v)
-      go (applied s v e) = ap₂ (λ w o. length (takenIf w day o)) v (s .reads) ∙ sym (ap (λ w. cond (isAccepted w) 1 0) v)
+      go : Done holds b day rs → length (acceptedOne b day rs) ≡ cond (isAccepted (judge holds b day rs)) 1 0
+      go (nothing c r k v e) = ap (λ w. length (acceptedIf w day (readingIn (firstOf rs)))) v ∙ sym (ap (λ w. cond (isAccepted w) 1 0) v)
+      go (applied s v e) = ap₂ (λ w o. length (acceptedIf w day o)) v (s .reads) ∙ sym (ap (λ w. cond (isAccepted w) 1 0) v)
 
-  taken-length : (day : ℕ) (us : List (List Bytes)) (b : BookMeaning) → length (takenAll b day us) ≡ acceptedCount (verdicts holds b day us)
+  taken-length : (day : ℕ) (us : List (List Bytes)) (b : BookMeaning) → length (acceptedAll b day us) ≡ acceptedCount (verdicts holds b day us)
   taken-length day [] b = refl
   taken-length day (u ∷ us) b =
-      length-append (takenOne b day u) (takenAll (entered holds b day u) day us)
+      length-append (acceptedOne b day u) (acceptedAll (entered holds b day u) day us)
       ∙ ap₂ (λ m n. m + n) (one-length b day u) (taken-length day us (entered holds b day u))
 
-  Counted : BookMeaning → List Taken → ℕ → Type 0
+  Counted : BookMeaning → List Acceptance → ℕ → Type 0
   Counted b ts n = countAnswer b ≡ record { accepted = length ts; rejected = n }
 
-  counted-posted : (g : Result Opening ℕ) (b : BookMeaning) (x : Handed) (ts : List Taken) (n : ℕ) → Counted b ts n → Counted (postBookAt holds b x g) (ts ++ acceptedAt holds b x g) (n + rejectedAt holds b x g)
+  counted-posted : (g : Result Opening ℕ) (b : BookMeaning) (x : Handed) (ts : List Acceptance) (n : ℕ) → Counted b ts n → Counted (postBookAt holds b x g) (ts ++ acceptedAt holds b x g) (n + rejectedAt holds b x g)
   unfolding Counted added
   counted-posted g b x ts n h = count-posted holds g b x ∙ ap (added g (posted holds b x)) h ∙ go g
     where
@@ -218,29 +218,29 @@ module _ (holds : Holds) where
       go (Err c) =
           let u : length ts ≡ length (ts ++ []) = simp append-nil in let v : n ≡ n + 0 = omega arith in λ k. record { accepted = u k; rejected = v k }
       go (Ok o) =
-          let a = length-append ts (takenAll b (x .day) (transactionsOf (x .file))) in
+          let a = length-append ts (acceptedAll b (x .day) (transactionsOf (x .file))) in
           let l = taken-length (x .day) (transactionsOf (x .file)) b in
-          let u : acceptedCount (posted holds b x) + length ts ≡ length (ts ++ takenAll b (x .day) (transactionsOf (x .file))) = omega arith in
+          let u : acceptedCount (posted holds b x) + length ts ≡ length (ts ++ acceptedAll b (x .day) (transactionsOf (x .file))) = omega arith in
           let v : rejectedCount (posted holds b x) + n ≡ n + rejectedCount (posted holds b x) = omega arith in λ k. record { accepted = u k; rejected = v k }
 
-  counted-none : (b : BookMeaning) (ts : List Taken) (n : ℕ) → Counted b ts n → Counted b (ts ++ []) (n + 0)
+  counted-none : (b : BookMeaning) (ts : List Acceptance) (n : ℕ) → Counted b ts n → Counted b (ts ++ []) (n + 0)
   counted-none b ts n h = let e : n + 0 ≡ n = omega arith in rw (append-nil, e) h
 
-  counted-called : (b : BookMeaning) (c : Call) (ts : List Taken) (n : ℕ) → Counted b ts n → Counted (called holds b c) (ts ++ acceptedBy holds b c) (n + rejectedBy holds b c)
+  counted-called : (b : BookMeaning) (c : Call) (ts : List Acceptance) (n : ℕ) → Counted b ts n → Counted (called holds b c) (ts ++ acceptedBy holds b c) (n + rejectedBy holds b c)
   counted-called b (checking x) ts n h = counted-none b ts n h
   counted-called b (posting x) ts n h = counted-posted (postGate b x) b x ts n h
   counted-called b (showing p) ts n h = counted-none b ts n h
   counted-called b (seeking o) ts n h = counted-none b ts n h
   counted-called b counting ts n h = counted-none b ts n h
 
-  counted-run : (cs : List Call) (b : BookMeaning) (ts : List Taken) (n : ℕ) → Counted b ts n → Counted (run holds b cs) (ts ++ acceptedIn holds b cs) (n + rejectedIn holds b cs)
+  counted-run : (cs : List Call) (b : BookMeaning) (ts : List Acceptance) (n : ℕ) → Counted b ts n → Counted (run holds b cs) (ts ++ acceptedIn holds b cs) (n + rejectedIn holds b cs)
   counted-run [] b ts n h = counted-none b ts n h
   counted-run (c ∷ cs) b ts n h =
       let e : n + (rejectedBy holds b c + rejectedIn holds (called holds b c) cs) ≡ n + rejectedBy holds b c + rejectedIn holds (called holds b c) cs = omega arith in
       rw (← append-assoc ts (acceptedBy holds b c) (acceptedIn holds (called holds b c) cs), e)
       (counted-run cs (called holds b c) (ts ++ acceptedBy holds b c) (n + rejectedBy holds b c) (counted-called b c ts n h))
 
-shown-from : (p : Pair) (ts : List Taken) (x : Option EntryHeld) → Kept p ts x → Shown p ts (mapped entryTold x)
+shown-from : (p : Pair) (ts : List Acceptance) (x : Option EntryHeld) → Kept p ts x → Shown p ts (mapped entryTold x)
 shown-from p ts None k = k .0
 shown-from p ts (Some e) k = k
 

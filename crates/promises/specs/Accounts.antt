@@ -19,29 +19,29 @@ use Rattle.promises.specs.Calls.{Handed, postGate, posted, Call, checking, pos
 use Rattle.promises.specs.Packets.{rejectedCount}
 
 -- an accepted transaction, as its header tells it, and the day of the post
-pub record Taken : Type 0 where
+pub record Acceptance : Type 0 where
   pub day : ℕ
   pub what : Transaction
 
-abbrev pub takenIf : Verdict → ℕ → Option Transaction → List Taken
-takenIf (Refused code at-record column) day t = []
-takenIf Accepted day None = []
-takenIf Accepted day (Some t) = record { day = day; what = t } ∷ []
+abbrev pub acceptedIf : Verdict → ℕ → Option Transaction → List Acceptance
+acceptedIf (Refused code at-record column) day t = []
+acceptedIf Accepted day None = []
+acceptedIf Accepted day (Some t) = record { day = day; what = t } ∷ []
 
-abbrev pub takenOf : ℕ → List Verdict → List (List Bytes) → List Taken
-takenOf day [] more = []
-takenOf day (v ∷ vs) [] = []
-takenOf day (v ∷ vs) (rs ∷ more) = takenIf v day (readingIn (firstOf rs)) ++ takenOf day vs more
+abbrev pub acceptedAmong : ℕ → List Verdict → List (List Bytes) → List Acceptance
+acceptedAmong day [] more = []
+acceptedAmong day (v ∷ vs) [] = []
+acceptedAmong day (v ∷ vs) (rs ∷ more) = acceptedIf v day (readingIn (firstOf rs)) ++ acceptedAmong day vs more
 
-abbrev pub acceptedAt : Holds → BookMeaning → Handed → Result Opening ℕ → List Taken
+abbrev pub acceptedAt : Holds → BookMeaning → Handed → Result Opening ℕ → List Acceptance
 acceptedAt holds b x (Err code) = []
-acceptedAt holds b x (Ok o) = takenOf (x .day) (posted holds b x) (transactionsOf (x .file))
+acceptedAt holds b x (Ok o) = acceptedAmong (x .day) (posted holds b x) (transactionsOf (x .file))
 
 abbrev pub rejectedAt : Holds → BookMeaning → Handed → Result Opening ℕ → ℕ
 rejectedAt holds b x (Err code) = 0
 rejectedAt holds b x (Ok o) = rejectedCount (posted holds b x)
 
-abbrev pub acceptedBy : Holds → BookMeaning → Call → List Taken
+abbrev pub acceptedBy : Holds → BookMeaning → Call → List Acceptance
 acceptedBy holds b (checking x) = []
 acceptedBy holds b (posting x) = acceptedAt holds b x (postGate b x)
 acceptedBy holds b (showing p) = []
@@ -56,7 +56,7 @@ rejectedBy holds b (seeking office) = 0
 rejectedBy holds b counting = 0
 
 -- in the calls made on a book, from left to right
-abbrev pub acceptedIn : Holds → BookMeaning → List Call → List Taken
+abbrev pub acceptedIn : Holds → BookMeaning → List Call → List Acceptance
 acceptedIn holds b [] = []
 acceptedIn holds b (c ∷ cs) = acceptedBy holds b c ++ acceptedIn holds (called holds b c) cs
 

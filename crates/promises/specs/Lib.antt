@@ -8,6 +8,7 @@ pub mod Packets
 pub mod Calls
 pub mod Accounts
 pub mod Related
+pub mod NoPairs
 pub mod Tells
 pub mod EitherOrder
 pub mod Replaced

@@ -4,6 +4,7 @@ ghost use Rattle.promises.specs.Acting.{ActionsDo, MarkIsSet};
 ghost use Rattle.promises.specs.EitherOrder.{EitherOrder};
 ghost use Rattle.promises.specs.Facts.{Facts};
 ghost use Rattle.promises.specs.Lasting.{FirstCounts, NeverGrows, PostedOnce, RejectedLeaveNothing};
+ghost use Rattle.promises.specs.NoPairs.{PairsByVerdict};
 ghost use Rattle.promises.specs.Promises.{Promises};
 ghost use Rattle.promises.specs.ReadBack.{VerdictsFit, ReadsBack};
 ghost use Rattle.promises.specs.Replaced.{CheckLeavesOthers, PostLeavesOthers, PostLeavesEarlier};
@@ -90,4 +91,9 @@ pub fn replaced_one_leaves_earlier_posted()
 // The three promises of one run of calls, on a book that other calls led to.
 pub fn promises_of_a_run()
     ensures { λ _. ⌜ Promises ⌝ }
+{}
+
+// A transaction has no pairs exactly if its verdict is 30, or 21, 22, 32 or 51 in its header.
+pub fn pairs_by_verdict()
+    ensures { λ _. ⌜ PairsByVerdict ⌝ }
 {}
