@@ -17,7 +17,7 @@ use Rattle.std.specs.declared.result.Result.the-variants.{Ok, Err}
 use Rattle.std.specs.shelf.Text.{sameBytes}
 use Rattle.std.proofs.shelf.Equals.{sameBytes-decides}
 use Rattle.std.proofs.shelf.Lists.{take-append-drop}
-use Rattle.std.proofs.shelf.Tests.{and-parts, le-leb, lt-leb, cond-true}
+use Rattle.std.proofs.shelf.Tests.{and-parts}
 use Rattle.ordered.specs.Order.{ranks, every, ascends, held, entered, altered, adds}
 use Rattle.ordered.specs.declared.refusal.Refusal.{Refusal}
 use Rattle.ordered.specs.declared.refusal.Refusal.the-variants as table
@@ -87,14 +87,14 @@ module _ (es : List EntryRow) (ls : List LineRow) (ms : List MarkRow) (ne nl nm 
       answer-at : takeAnswer (rowsMean es ls ms ne nl nm) p n ≡ cond (leb n (x .left)) (Ok tt) (Err AboveOpen)
       answer-at = ap (λ t. takeAnswerAt t n) (entry-found ∙ ap (mapped entryOf) h)
 
-      pub take-above : x .left < n → Done (Err AboveOpen) (rowsMean es ls ms ne nl nm) (takeAnswer (rowsMean es ls ms ne nl nm) p n) (taking (rowsMean es ls ms ne nl nm) p n)
+      pub take-above : leb n (x .left) ≡ false → Done (Err AboveOpen) (rowsMean es ls ms ne nl nm) (takeAnswer (rowsMean es ls ms ne nl nm) p n) (taking (rowsMean es ls ms ne nl nm) p n)
       take-above l =
-          let a : Err AboveOpen ≡ takeAnswer (rowsMean es ls ms ne nl nm) p n = sym (answer-at ∙ ap (λ b. cond b (Ok tt) (Err AboveOpen)) (lt-leb n (x .left) l)) in
+          let a : Err AboveOpen ≡ takeAnswer (rowsMean es ls ms ne nl nm) p n = sym (answer-at ∙ ap (λ b. cond b (Ok tt) (Err AboveOpen)) l) in
           record { answer-is = a; after-is = ap (λ t. unlessRefused t (takeOpen p n (rowsMean es ls ms ne nl nm)) (rowsMean es ls ms ne nl nm)) a }
 
-      pub take-done : (es′ : List EntryRow) → n ≤ x .left → es′ ≡ altered ranks entryCode (pairKey p) (lessRow n) es → Done (Ok tt) (rowsMean es′ ls ms ne nl nm) (takeAnswer (rowsMean es ls ms ne nl nm) p n) (taking (rowsMean es ls ms ne nl nm) p n)
+      pub take-done : (es′ : List EntryRow) → leb n (x .left) ≡ true → es′ ≡ altered ranks entryCode (pairKey p) (lessRow n) es → Done (Ok tt) (rowsMean es′ ls ms ne nl nm) (takeAnswer (rowsMean es ls ms ne nl nm) p n) (taking (rowsMean es ls ms ne nl nm) p n)
       take-done es′ l e =
-          let a : Ok tt ≡ takeAnswer (rowsMean es ls ms ne nl nm) p n = sym (answer-at ∙ ap (λ b. cond b (Ok tt) (Err AboveOpen)) (le-leb n (x .left) l)) in
+          let a : Ok tt ≡ takeAnswer (rowsMean es ls ms ne nl nm) p n = sym (answer-at ∙ ap (λ b. cond b (Ok tt) (Err AboveOpen)) l) in
           record {
             answer-is = a;
             after-is = ap (withEntries (rowsMean es ls ms ne nl nm)) (ap (map entryOf) e ∙ changed entryCode soundEntry entryOf (under p) (pairKey p) (entry-test p o) (lessRow n) (less n) (λ y. refl) es s)

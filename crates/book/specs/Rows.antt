@@ -8,12 +8,13 @@ use mathlib.Core.Bool.{Bool, true, _&&_}
 use mathlib.Core.List.{List, [], _∷_, _++_, map}
 use Prim.Native.Nat.{ℕ, zero, suc, _+_, _-_, _/_, _%_, _<_}
 use lib.Dec.{leb}
-use lib.ListN.{length, getD, take, drop}
+use lib.ListN.{length, getD, take, drop, replicate}
 use Rattle.std.specs.declared.option.Option.{Option}
 use Rattle.std.specs.declared.option.Option.the-variants.{Some, None}
 use Rattle.std.specs.shelf.Text.{sameBytes}
 use Rattle.bytes.specs.Classes.{Bytes}
 use Rattle.bytes.specs.Values.{valueOf}
+use Rattle.layout.specs.declared.set_id.SetId.the-variants.{Payment}
 use Rattle.layout.specs.declared.pair.Pair.{Pair}
 use Rattle.book.specs.declared.entry_row.EntryRow.{EntryRow}
 use Rattle.book.specs.declared.line_row.LineRow.{LineRow}
@@ -68,6 +69,16 @@ soundLine x = sameBytes (drop 13 (x .key)) (digitsOf 6 (lineOf x .number)) && is
 
 abbrev pub soundMark : MarkRow → Bool
 soundMark x = countsFit (markOf x)
+
+-- what fills a place that is not used
+abbrev pub unusedEntry : EntryRow
+unusedEntry = record { total = 0; left = 0; day = 0; key = replicate 13 0; «set_id» = Payment }
+
+abbrev pub unusedLine : LineRow
+unusedLine = record { amount = 0; key = replicate 19 0; sender = replicate 27 0; receiver = replicate 27 0 }
+
+abbrev pub unusedMark : MarkRow
+unusedMark = record { accepted = 0; rejected = 0; key = replicate 19 0 }
 
 -- a row with n less of its open amount
 abbrev pub lessRow : ℕ → EntryRow → EntryRow

@@ -2,12 +2,13 @@
 ghost use mathlib.Core.Path.{_≡_};
 ghost use mathlib.Core.Bool.{true, cond};
 ghost use Prim.Native.Nat.{ℕ, _+_, _-_, _<_, _≤_};
+ghost use lib.Dec.{leb};
 ghost use lib.ListN.{length, drop};
 ghost use Rattle.std.specs.Options.{mapped};
 ghost use Rattle.std.specs.declared.option.Option.the-variants.{Some, None};
 ghost use Rattle.book.specs.Meaning.{fresh, adjustable, seekable};
 ghost use Rattle.book.specs.Told.{told, entryTold, soughtTold};
-ghost use Rattle.book.specs.Rows.{pairKey, entryOf, entryCode, soundEntry, OpenAt};
+ghost use Rattle.book.specs.Rows.{pairKey, entryOf, entryCode, soundEntry, unusedEntry, OpenAt};
 use super::entry::Entry;
 use super::new_entry::NewEntry;
 use super::sought::Sought;
@@ -49,7 +50,7 @@ pub fn entry_key(pair: &Pair) -> [u8; 13]
 impl EntryRow {
     // What fills a place that is not used.
     pub fn unused() -> EntryRow
-        ensures { λ r. ⌜ r .total ≡ 0 ⌝ }
+        ensures { λ r. ⌜ r ≡ unusedEntry ⌝ }
     {
         EntryRow {
             total: 0,
@@ -102,6 +103,13 @@ impl EntryRow {
             Some(entry) => Some(Sought { reference, entry }),
             None => None,
         }
+    }
+
+    // Is the open amount as large as this.
+    pub fn may_take(&self, amount: u64) -> bool
+        ensures { λ r. ⌜ r ≡ leb amount (now (self .entry) .left) ⌝ }
+    {
+        amount <= self.left
     }
 
     // May seek answer this row.

@@ -77,3 +77,16 @@ pub trait Book {
     fn stands(&self)
         ensures { λ _. ⌜ Stands (meaning (now (self .entry))) ⌝ };
 }
+
+// The line with this number under a pair; no book holds a line with a number that is not from 1 to 1,000.
+pub fn line_of<B: Book>(book: &B, pair: &Pair, number: u32) -> Option<Line>
+    ensures { λ r. ⌜ r ≡ mapped lineTold (lineAt (B·Book .meaning (now (book .entry))) (now (pair .entry)) number) ⌝ }
+{
+    match LineNumber::new(number) {
+        Some(number) => book.line(pair, number),
+        None => {
+            book.stands();
+            None
+        }
+    }
+}

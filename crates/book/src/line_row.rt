@@ -8,7 +8,7 @@ ghost use Rattle.std.specs.declared.option.Option.the-variants.{Some, None};
 ghost use Rattle.book.specs.Meaning.{lineUnder, lineTold};
 ghost use Rattle.book.specs.Told.{lineNumberTold};
 ghost use Rattle.book.specs.Stands.{isLineNumber};
-ghost use Rattle.book.specs.Rows.{lineKey, lineOf, lineCode, soundLine};
+ghost use Rattle.book.specs.Rows.{lineKey, lineOf, lineCode, soundLine, unusedLine};
 use super::entry_row::entry_key;
 use super::line::Line;
 use super::line_number::LineNumber;
@@ -68,7 +68,7 @@ pub fn line_key(pair: &Pair, number: LineNumber) -> [u8; 19]
 impl LineRow {
     // What fills a place that is not used.
     pub fn unused() -> LineRow
-        ensures { λ r. ⌜ r .amount ≡ 0 ⌝ }
+        ensures { λ r. ⌜ r ≡ unusedLine ⌝ }
     {
         LineRow {
             amount: 0,

@@ -6,7 +6,7 @@ ghost use Prim.Native.Nat.{_≤_};
 ghost use lib.ListN.{length};
 ghost use Rattle.book.specs.Meaning.{markUnder, markTold, countedIn};
 ghost use Rattle.book.specs.Actions.{countsFit};
-ghost use Rattle.book.specs.Rows.{markOf, markCode, soundMark};
+ghost use Rattle.book.specs.Rows.{markOf, markCode, soundMark, unusedMark};
 use super::mark::Counts;
 use super::mark::Mark;
 use ordered::Keyed;
@@ -31,7 +31,7 @@ pub impl Keyed for MarkRow as MarkKeyed {
 impl MarkRow {
     // What fills a place that is not used.
     pub fn unused() -> MarkRow
-        ensures { λ r. ⌜ r .accepted ≡ 0 ⌝ }
+        ensures { λ r. ⌜ r ≡ unusedMark ⌝ }
     {
         MarkRow {
             accepted: 0,

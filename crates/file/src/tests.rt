@@ -10,76 +10,84 @@ use crate::transactions::TransactionsIterator;
 use bytes::class::is_same;
 use std::test::*;
 
-// The file code that a file is refused with, and 0 for a good opening.
-fn code_of(file: &[u8]) -> u16 {
-    match Opening::of(file) {
-        Ok(_) => 0,
-        Err(fault) => fault.code(),
+// Whether each of the files is refused with the code; 0 stands for a good opening.
+fn each_gets(code: u16, files: &[&[u8]]) -> bool {
+    let mut all = true;
+    for file in files {
+        let got = match Opening::of(file) {
+            Ok(_) => 0,
+            Err(fault) => fault.code(),
+        };
+        all = all & (got == code);
     }
+    all
 }
 
 #[test]
-fn good_openings() -> Result<(), Fail> {
+fn good_opening() -> Result<(), Fail> {
     let opening = Opening::of(b"PCA    \nBIPAC000000040000123420260105001\nH\n")?;
     check_eq(opening.stated, 4)?;
-    check(is_same(&opening.id, b"0000123420260105001"))?;
-    check_eq(
-        code_of(b"PCA    \nBIPAC99999999a file of mine     \nH\n"),
-        0,
-    )
+    check(is_same(&opening.id, b"0000123420260105001"))
+}
+
+#[test]
+fn spaces_may_end_the_file_id() -> Result<(), Fail> {
+    check(each_gets(0, &[b"PCA    \nBIPAC99999999a file of mine     \nH\n"]))
 }
 
 #[test]
 fn files_without_an_end() -> Result<(), Fail> {
-    check_eq(code_of(b""), 2)?;
-    check_eq(code_of(b"PCA    "), 2)?;
-    check_eq(code_of(b"PCA    \nBIPAC000000040000123420260105001\nH"), 2)
+    check(each_gets(
+        2,
+        &[
+            b"",
+            b"PCA    ",
+            b"PCA    \nBIPAC000000040000123420260105001\nH",
+        ],
+    ))
 }
 
+// One line feed; six bytes; and carriage returns, which make it eight.
 #[test]
 fn bad_first_records() -> Result<(), Fail> {
-    check_eq(code_of(b"\n"), 3)?;
-    check_eq(code_of(b"PCA   \n"), 3)?;
-    check_eq(
-        code_of(b"PCA    \r\nBIPAC000000040000123420260105001\r\nH\r\n"),
+    check(each_gets(
         3,
-    )
+        &[
+            b"\n",
+            b"PCA   \n",
+            b"PCA    \r\nBIPAC000000040000123420260105001\r\nH\r\n",
+        ],
+    ))
 }
 
+// Absent; 31 bytes; 33 bytes; not BIPAC; a letter in the count; no File ID Number, and one that begins with a space.
 #[test]
 fn bad_second_records() -> Result<(), Fail> {
-    check_eq(code_of(b"PCA    \n"), 4)?;
-    check_eq(code_of(b"PCA    \nBIPAC00000004000012342026010500\nH\n"), 4).note("31 bytes")?;
-    check_eq(
-        code_of(b"PCA    \nBIPAC0000000400001234202601050011\nH\n"),
+    check(each_gets(
         4,
-    ).note("33 bytes")?;
-    check_eq(
-        code_of(b"PCA    \nBIPAX000000040000123420260105001\nH\n"),
-        4,
-    )?;
-    check_eq(
-        code_of(b"PCA    \nBIPAC0000000A0000123420260105001\nH\n"),
-        4,
-    )?;
-    check_eq(
-        code_of(b"PCA    \nBIPAC00000004                   \nH\n"),
-        4,
-    )?;
-    check_eq(
-        code_of(b"PCA    \nBIPAC00000004 000123420260105001\nH\n"),
-        4,
-    )
+        &[
+            b"PCA    \n",
+            b"PCA    \nBIPAC00000004000012342026010500\nH\n",
+            b"PCA    \nBIPAC0000000400001234202601050011\nH\n",
+            b"PCA    \nBIPAX000000040000123420260105001\nH\n",
+            b"PCA    \nBIPAC0000000A0000123420260105001\nH\n",
+            b"PCA    \nBIPAC00000004                   \nH\n",
+            b"PCA    \nBIPAC00000004 000123420260105001\nH\n",
+        ],
+    ))
 }
 
+// Absent; empty; and a small letter.
 #[test]
 fn bad_third_records() -> Result<(), Fail> {
-    check_eq(code_of(b"PCA    \nBIPAC000000040000123420260105001\n"), 5)?;
-    check_eq(code_of(b"PCA    \nBIPAC000000040000123420260105001\n\n"), 5)?;
-    check_eq(
-        code_of(b"PCA    \nBIPAC000000040000123420260105001\nh\n"),
+    check(each_gets(
         5,
-    )
+        &[
+            b"PCA    \nBIPAC000000040000123420260105001\n",
+            b"PCA    \nBIPAC000000040000123420260105001\n\n",
+            b"PCA    \nBIPAC000000040000123420260105001\nh\n",
+        ],
+    ))
 }
 
 // Two transactions: a header with a D, an E and an empty record; and a header with a record of no letter.

@@ -1,13 +1,13 @@
--- What three tables in the caller's memory mean as a book.
+-- What the three tables of a lent book mean, and what they keep.
 -- Assumes nothing.
-use Prim.Native.Nat.{ℕ}
-use Rattle.ordered.specs.Tables.{shown}
-use Rattle.ordered.specs.declared.table.Table.{Table}
-use Rattle.book.specs.declared.entry_row.EntryRow.{EntryRow}
-use Rattle.book.specs.declared.line_row.LineRow.{LineRow}
-use Rattle.book.specs.declared.mark_row.MarkRow.{MarkRow}
+use Prim.Native.Nat.{ℕ, _≤_}
+use Rattle.ordered.specs.Tables.{shown, Fine}
 use Rattle.book.specs.Meaning.{BookMeaning}
-use Rattle.book.specs.Rows.{rowsMean}
+use Rattle.book.specs.Rows.{entryCode, lineCode, markCode, soundEntry, soundLine, soundMark, rowsMean}
+use Rattle.lent_book.specs.declared.tables.Tables.{Tables}
 
-abbrev pub lentMeans : Table EntryRow → Table LineRow → Table MarkRow → BookMeaning
-lentMeans e l m = rowsMean (shown e) (shown l) (shown m) (e .places) (l .places) (m .places)
+abbrev pub lentMeans : Tables → BookMeaning
+lentMeans t = rowsMean (shown (t .entries)) (shown (t .lines)) (shown (t .marks)) (t .entries .places) (t .lines .places) (t .marks .places)
+
+abbrev pub FineTables : Tables → Type 0
+FineTables t = Fine entryCode soundEntry (t .entries) × Fine lineCode soundLine (t .lines) × Fine markCode soundMark (t .marks) × (t .marks .places ≤ 65536)

@@ -11,9 +11,10 @@
 use mathlib.Core.Path.{_≡_}
 use mathlib.Core.List.{List, [], _∷_, _++_}
 use mathlib.Core.Bool.{Bool, true, false, cond, not, _&&_}
-use Prim.Native.Nat.{ℕ, _<_, _≤_}
+use Prim.Native.Nat.{ℕ, _+_, _-_, _<_, _≤_}
 use lib.Dec.{ltb}
-use lib.ListN.{length, getD, set}
+use lib.ListN.{length, getD, set, drop}
+use lib.Seq.{paste}
 use Rattle.std.specs.Lexical.{lex}
 use Rattle.std.specs.Options.{isSome}
 use Rattle.std.specs.Orderings.{isLt, isEq, reversed}
@@ -41,6 +42,10 @@ pub record TotalOrder {K : Type 0} (rank : K → K → Ordering) : Type 0 where
 abbrev pub every : {X : Type 0} → (X → Bool) → List X → Bool
 every t [] = true
 every t (x ∷ xs) = t x && every t xs
+
+-- of the n first, those from `at` on moved up by one, and x in the gap
+abbrev pub shiftedIn : {X : Type 0} → List X → ℕ → ℕ → X → List X
+shiftedIn xs n at x = set (paste xs (at + 1) (drop at xs) (n - at)) at x
 
 module _ {K X : Type 0} (rank : K → K → Ordering) (key : X → K) where
   -- k comes before the first key

@@ -3,7 +3,7 @@ ghost use mathlib.Core.Path.{_≡_};
 ghost use mathlib.Core.Bool.{true, cond};
 ghost use mathlib.Core.List.{[]};
 ghost use Prim.Native.Nat.{ℕ, _+_, _-_, _<_, _≤_};
-ghost use lib.ListN.{length};
+ghost use lib.ListN.{set};
 ghost use Rattle.std.specs.Results.{isOk};
 ghost use Rattle.ordered.specs.Order.{ranks, held, entered, adds, Scanned};
 ghost use Rattle.ordered.specs.Tables.{arrived, listed, FineArrivals};
@@ -56,9 +56,17 @@ impl<T: Keyed, const N: usize> Arrivals<T, N> {
         requires { ⌜ FineArrivals (T·Keyed .code) (T·Keyed .sound) (now self) ⌝ }
         ensures { λ r. ⌜ now r ≡ arrived (now (self .entry)) ⌝ }
     {
-        let n = self.n;
+        let end = self.n;
         let all = &self.rows[..];
-        &all[0..n]
+        &all[0..end]
+    }
+
+    // How many more records the table can hold.
+    pub fn free(&self) -> usize
+        requires { ⌜ FineArrivals (T·Keyed .code) (T·Keyed .sound) (now self) ⌝ }
+        ensures { λ r. ⌜ r ≡ N - now (self .entry) .n ⌝ }
+    {
+        N - self.n
     }
 
     // What adding a record with this key would answer.
@@ -78,6 +86,16 @@ impl<T: Keyed, const N: usize> Arrivals<T, N> {
         }
     }
 
+    fn push(&mut self, row: T)
+        requires { ⌜ now self .n < N ⌝ }
+        ensures rows { λ _. ⌜ now (self .exit) .rows ≡ set (now (self .entry) .rows) (now (self .entry) .n) row ⌝ }
+        ensures more { λ _. ⌜ now (self .exit) .n ≡ now (self .entry) .n + 1 ⌝ }
+    {
+        let n = self.n;
+        self.rows[n] = row;
+        self.n = n + 1;
+    }
+
     // Adds a record behind the others.
     pub fn add(&mut self, row: T) -> Result<(), Refusal>
         requires fine { ⌜ FineArrivals (T·Keyed .code) (T·Keyed .sound) (now self) ⌝ }
@@ -89,12 +107,10 @@ impl<T: Keyed, const N: usize> Arrivals<T, N> {
         match self.seek(row.key()) {
             Some(_) => Err(Refusal::Held),
             None => {
-                let n = self.n;
-                if n >= N {
+                if self.n >= N {
                     return Err(Refusal::Full);
                 }
-                self.rows[n] = row;
-                self.n = n + 1;
+                self.push(row);
                 Ok(())
             }
         }

@@ -2,14 +2,13 @@
 ghost use mathlib.Core.Bool.{true};
 ghost use mathlib.Core.Path.{_≡_};
 ghost use Prim.Native.Nat.{ℕ, _+_, _-_, _<_, _≤_};
-ghost use lib.ListN.{length, take, drop};
-ghost use Rattle.std.specs.shelf.Lists.{inserted};
-ghost use Rattle.ordered.specs.Order.{ranks, ascends, held, sorted, Found, Scanned};
+ghost use lib.ListN.{length};
+ghost use Rattle.ordered.specs.Order.{ranks, ascends, held, sorted, shiftedIn, Found, Scanned};
 use super::Keyed;
 use std::cmp::Ordering;
 
 // Where the record with this key stands in a table in the order of its keys, or where it would go.
-pub fn find<T: Keyed>(rows: &[T], key: &[u8]) -> Result<usize, usize>
+pub(crate) fn find<T: Keyed>(rows: &[T], key: &[u8]) -> Result<usize, usize>
     requires { ⌜ ascends ranks (T·Keyed .code) (now rows) ≡ true ⌝ }
     ensures { λ r. ⌜ Found ranks (T·Keyed .code) (now (key .entry)) (now (rows .entry)) r ⌝ }
 {
@@ -27,7 +26,7 @@ pub fn find<T: Keyed>(rows: &[T], key: &[u8]) -> Result<usize, usize>
 }
 
 // The record with this key, in a table in the order of its keys.
-pub fn look_up<T: Keyed>(rows: &[T], key: &[u8]) -> Option<T>
+pub(crate) fn look_up<T: Keyed>(rows: &[T], key: &[u8]) -> Option<T>
     requires { ⌜ ascends ranks (T·Keyed .code) (now rows) ≡ true ⌝ }
     ensures { λ r. ⌜ r ≡ held ranks (T·Keyed .code) (now (key .entry)) (now (rows .entry)) ⌝ }
 {
@@ -41,16 +40,14 @@ pub fn look_up<T: Keyed>(rows: &[T], key: &[u8]) -> Option<T>
 pub(crate) fn place<T: Keyed>(rows: &mut [T], n: usize, at: usize, row: T)
     requires room { ⌜ n < length (now rows) ⌝ }
     requires within { ⌜ at ≤ n ⌝ }
-    ensures after { λ _. ⌜ take (n + 1) (now (rows .exit)) ≡ inserted (take n (now (rows .entry))) at row ⌝ }
-    ensures rest { λ _. ⌜ drop (n + 1) (now (rows .exit)) ≡ drop (n + 1) (now (rows .entry)) ⌝ }
-    ensures len { λ _. ⌜ length (now (rows .exit)) ≡ length (now (rows .entry)) ⌝ }
+    ensures { λ _. ⌜ now (rows .exit) ≡ shiftedIn (now (rows .entry)) n at row ⌝ }
 {
     rows.copy_within(at..n, at + 1);
     rows[at] = row;
 }
 
 // Where the record with this key stands in a table in order of arrival.
-pub fn scan<T: Keyed>(rows: &[T], key: &[u8]) -> Option<usize>
+pub(crate) fn scan<T: Keyed>(rows: &[T], key: &[u8]) -> Option<usize>
     ensures { λ r. ⌜ Scanned ranks (T·Keyed .code) (now (key .entry)) (now (rows .entry)) r ⌝ }
 {
     for i in 0..rows.len() {
@@ -62,7 +59,7 @@ pub fn scan<T: Keyed>(rows: &[T], key: &[u8]) -> Option<usize>
 }
 
 // The record with this key, in a table in order of arrival.
-pub fn pick<T: Keyed>(rows: &[T], key: &[u8]) -> Option<T>
+pub(crate) fn pick<T: Keyed>(rows: &[T], key: &[u8]) -> Option<T>
     ensures { λ r. ⌜ r ≡ held ranks (T·Keyed .code) (now (key .entry)) (sorted ranks (T·Keyed .code) (now (rows .entry))) ⌝ }
 {
     match scan(rows, key) {

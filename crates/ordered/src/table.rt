@@ -57,8 +57,16 @@ impl<'a, T: Keyed> Table<'a, T> {
         requires { ⌜ Fine (T·Keyed .code) (T·Keyed .sound) (now self) ⌝ }
         ensures { λ r. ⌜ now r ≡ shown (now (self .entry)) ⌝ }
     {
-        let n = self.n;
-        &self.rows[0..n]
+        let end = self.n;
+        &self.rows[0..end]
+    }
+
+    // How many more records the table can hold.
+    pub fn free(&self) -> usize
+        requires { ⌜ Fine (T·Keyed .code) (T·Keyed .sound) (now self) ⌝ }
+        ensures { λ r. ⌜ r ≡ now (self .entry) .places - now (self .entry) .n ⌝ }
+    {
+        self.places - self.n
     }
 
     // What adding a record with this key would answer.
@@ -69,10 +77,10 @@ impl<'a, T: Keyed> Table<'a, T> {
         match self.seek(row.key()) {
             Ok(_) => Err(Refusal::Held),
             Err(_) => {
-                if self.n >= self.places {
-                    Err(Refusal::Full)
-                } else {
+                if self.n < self.places {
                     Ok(())
+                } else {
+                    Err(Refusal::Full)
                 }
             }
         }

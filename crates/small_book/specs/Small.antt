@@ -1,13 +1,13 @@
--- What three tables in order of arrival mean as a book.
+-- What the three tables of a small book mean, and what they keep.
 -- Assumes nothing.
 use Prim.Native.Nat.{ℕ}
-use Rattle.ordered.specs.Tables.{listed}
-use Rattle.ordered.specs.declared.arrivals.Arrivals.{Arrivals}
-use Rattle.book.specs.declared.entry_row.EntryRow.{EntryRow}
-use Rattle.book.specs.declared.line_row.LineRow.{LineRow}
-use Rattle.book.specs.declared.mark_row.MarkRow.{MarkRow}
+use Rattle.ordered.specs.Tables.{listed, FineArrivals}
 use Rattle.book.specs.Meaning.{BookMeaning}
-use Rattle.book.specs.Rows.{entryCode, lineCode, markCode, rowsMean}
+use Rattle.book.specs.Rows.{entryCode, lineCode, markCode, soundEntry, soundLine, soundMark, rowsMean}
+use Rattle.small_book.specs.declared.tables.Tables.{Tables}
 
-abbrev pub smallMeans : Arrivals EntryRow 64 → Arrivals LineRow 512 → Arrivals MarkRow 16 → BookMeaning
-smallMeans e l m = rowsMean (listed entryCode e) (listed lineCode l) (listed markCode m) 64 512 16
+abbrev pub smallMeans : Tables → BookMeaning
+smallMeans t = rowsMean (listed entryCode (t .entries)) (listed lineCode (t .lines)) (listed markCode (t .marks)) 64 512 16
+
+abbrev pub FineTables : Tables → Type 0
+FineTables t = FineArrivals entryCode soundEntry (t .entries) × FineArrivals lineCode soundLine (t .lines) × FineArrivals markCode soundMark (t .marks)
