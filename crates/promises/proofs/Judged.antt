@@ -95,3 +95,14 @@ sound holds b day rs e = sound-own holds rs (accepted-left (ownChecks holds rs) 
 pub book-passes : (holds : Holds) (b : BookMeaning) (day : ℕ) (rs : List Bytes) (t : Transaction) → readingIn (firstOf rs) ≡ Some t → judge holds b day rs ≡ Accepted → verdict (bookChecks b day t (detailsOf (othersOf rs))) ≡ Accepted
 book-passes holds b day rs t is e =
     subst (λ o. verdict (bookChecksAny b day o (detailsOf (othersOf rs))) ≡ Accepted) is (accepted-right (ownChecks holds rs) _ e)
+
+-- a verdict by its parts, as code comes to it: refused on its own, or else as the book says
+pub judge-refused : (holds : Holds) (b : BookMeaning) (day : ℕ) (rs : List Bytes) (c r k : ℕ) → ownVerdict holds rs ≡ Refused c r k → judge holds b day rs ≡ Refused c r k
+judge-refused holds b day rs c r k e =
+    let more = bookChecksAny b day (readingIn (firstOf rs)) (detailsOf (othersOf rs)) in
+    verdict-append (ownChecks holds rs) more ∙ ap (λ v. then v (verdict more)) e
+
+pub judge-sound : (holds : Holds) (b : BookMeaning) (day : ℕ) (rs : List Bytes) (t : Transaction) → ownVerdict holds rs ≡ Accepted → readingIn (firstOf rs) ≡ Some t → judge holds b day rs ≡ verdict (bookChecks b day t (detailsOf (othersOf rs)))
+judge-sound holds b day rs t e is =
+    let more = bookChecksAny b day (readingIn (firstOf rs)) (detailsOf (othersOf rs)) in
+    verdict-append (ownChecks holds rs) more ∙ ap (λ v. then v (verdict more)) e ∙ ap (λ o. verdict (bookChecksAny b day o (detailsOf (othersOf rs)))) is
