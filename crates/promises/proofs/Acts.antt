@@ -1,15 +1,15 @@
 -- No action is refused for an accepted transaction: its entry, its lines one by one, its amount.
-use mathlib.Core.Path.{_≡_, refl, sym, ap, ap₂, _∙_, subst}
-use mathlib.Core.Bool.{Bool, true, false, cond, not, _&&_}
+use mathlib.Core.Path.{_≡_, refl, sym, ap, ap₂, _∙_}
+use mathlib.Core.Bool.{Bool, true, false, cond, not}
 use mathlib.Core.List.{List, [], _∷_}
-use Prim.Native.Nat.{ℕ, suc, _+_, _-_, _≤_, _<_}
+use Prim.Native.Nat.{ℕ, suc, _+_, _-_, _≤_}
 use native.Mathlib.Omega.{arith}
-use lib.Dec.{eqb, leb}
+use lib.Dec.{eqb}
 use lib.ListN.{length, drop}
 use Rattle.std.specs.Options.{isSome}
 use Rattle.std.specs.declared.option.Option.{Option}
 use Rattle.std.specs.declared.option.Option.the-variants.{Some, None}
-use Rattle.std.specs.declared.result.Result.the-variants.{Ok, Err}
+use Rattle.std.specs.declared.result.Result.the-variants.{Ok}
 use Rattle.std.proofs.shelf.Lists.{length-drop}
 use Rattle.std.proofs.shelf.Tests.{ne-eqb, le-leb, and-parts, true≢false}
 use Rattle.layout.specs.declared.pair.Pair.{Pair}
@@ -18,19 +18,16 @@ use Rattle.file.specs.Records.{records, transactionsOf}
 use Rattle.file.proofs.Tallies.{records-few}
 use Rattle.book.specs.Lists.{find}
 use Rattle.book.specs.Meaning.{BookMeaning, EntryHeld, LineHeld, samePair, underMark, markUnder, markAt, freeMarks, fresh, lineUnder, entryAt, lineAt, freeEntries, freeLines, lineFirst}
-use Rattle.book.specs.Actions.{Answer, admits, enter, enterLine, takeOpen, entryAnswer, lineAnswer, takeAnswerAt, takeAnswer, markAnswer, setMark, unlessRefused, entering, enteringLine, taking}
+use Rattle.book.specs.Actions.{enter, enterLine, takeOpen, entryAnswer, lineAnswer, takeAnswer, markAnswer, setMark, unlessRefused, entering, enteringLine}
 use Rattle.transaction.specs.declared.header.Transaction.{Transaction}
 use Rattle.transaction.specs.declared.verdict.Verdict.{Verdict}
-use Rattle.transaction.specs.declared.verdict.Verdict.the-variants.{Accepted}
 use Rattle.transaction.specs.Details.{DetailRead}
 use Rattle.transaction.specs.Headers.{setIdOf, totalOf, ownPair}
-use Rattle.transaction.specs.Verdicts.{verdict}
 use Rattle.promises.specs.Own.{linesOf, noLines}
-use Rattle.promises.specs.Judging.{bookChecks}
-use Rattle.promises.specs.Entering.{entryOf, lineOf, enterLines, enterOwn, takenFrom, takeAt, apply, after}
+use Rattle.promises.specs.Entering.{entryOf, lineOf, enterLines, enterOwn, takenFrom, takeAt, after}
 use Rattle.promises.specs.Packets.{isAccepted, acceptedCount, rejectedCount}
 use Rattle.promises.specs.Calls.{posted, countsOf, postBookAt}
-use Rattle.promises.specs.Acting.{enteringLines, enteringOwn, takingAt, acting, ActionsDo, MarkIsSet}
+use Rattle.promises.specs.Acting.{enteringLines, enteringOwn, takingAt, ActionsDo, MarkIsSet}
 use Rattle.promises.proofs.Tables.{samePair-self, samePair-is, length-place}
 use Rattle.promises.proofs.Effect.{line-placed, entry-placed, own-is}
 use Rattle.promises.proofs.Frame.{after-used}

@@ -1,12 +1,10 @@
 -- Every check has a code above 0, and its numbers fit the fields of a packet.
-use mathlib.Core.Path.{_≡_, refl, sym, ap, _∙_}
+use mathlib.Core.Path.{_≡_}
 use mathlib.Core.Bool.{Bool, true, false, cond}
-use mathlib.Core.List.{List, [], _∷_, _++_}
-use Prim.Native.Nat.{ℕ, _+_, _≤_, _<_}
+use mathlib.Core.List.{List, [], _∷_}
+use Prim.Native.Nat.{ℕ, _≤_, _<_}
 use native.Mathlib.Omega.{arith}
-use lib.Dec.{eqb, leb}
 use lib.ListN.{length}
-use Rattle.std.specs.Options.{isSome}
 use Rattle.std.specs.declared.option.Option.{Option}
 use Rattle.std.specs.declared.option.Option.the-variants.{Some, None}
 use Rattle.std.specs.shelf.Lists.{All}
@@ -18,8 +16,6 @@ use Rattle.layout.specs.Layouts.{headerOf}
 use Rattle.layout.specs.SetIds.{setIdIn}
 use Rattle.file.specs.Records.{firstOf, othersOf}
 use Rattle.book.specs.Meaning.{BookMeaning}
-use Rattle.transaction.specs.declared.verdict.Verdict.{Verdict}
-use Rattle.transaction.specs.declared.verdict.Verdict.the-variants.{Accepted, Refused}
 use Rattle.transaction.specs.Checks.{Holds, checksUnder, checksOfSet, ownChecks}
 use Rattle.transaction.specs.Details.{detailsOf}
 use Rattle.transaction.specs.Sounds.{readingIn}

@@ -1,10 +1,9 @@
 -- A transaction asks and changes the book at its own pairs, and no more than its places.
 use mathlib.Core.Path.{_≡_, refl, sym, ap, ap₂, _∙_, subst}
-use mathlib.Core.Bool.{Bool, true, false, cond, _&&_}
+use mathlib.Core.Bool.{Bool, true, false, cond}
 use mathlib.Core.List.{List, [], _∷_, _++_}
 use Prim.Native.Nat.{ℕ, suc, _+_, _-_, _≤_}
 use native.Mathlib.Omega.{arith}
-use lib.Dec.{leb}
 use lib.ListN.{length}
 use Rattle.std.specs.declared.option.Option.{Option}
 use Rattle.std.specs.declared.option.Option.the-variants.{Some, None}
@@ -28,8 +27,8 @@ use Rattle.transaction.specs.Sounds.{readingIn}
 use Rattle.transaction.specs.Verdicts.{Check, check, verdict}
 use Rattle.promises.specs.Held.{Held, at, checksAt}
 use Rattle.promises.specs.Against.{adjusts, originalChecks}
-use Rattle.promises.specs.Own.{linesUnder, linesOf, ownPairChecks, hasPlaces, placeChecks}
-use Rattle.promises.specs.Judging.{bookChecks, bookChecksAny, allChecks, judge}
+use Rattle.promises.specs.Own.{linesUnder, linesOf, ownPairChecks, placeChecks}
+use Rattle.promises.specs.Judging.{bookChecks, bookChecksAny, judge}
 use Rattle.promises.specs.Entering.{entryOf, lineOf, takenFrom, takeAt, apply, applyIf, entered, verdicts, after}
 use Rattle.promises.specs.Related.{listed, pairsIn}
 use Rattle.promises.proofs.Tables.{length-place, length-change}

@@ -1,30 +1,28 @@
 -- The verdict of a list of checks in two parts, and what acceptance says.
 use mathlib.Core.Path.{_≡_, refl, sym, ap, _∙_, subst}
-use mathlib.Core.Bool.{Bool, true, false, cond, _&&_}
+use mathlib.Core.Bool.{Bool, true, false, cond}
 use mathlib.Core.List.{List, [], _∷_, _++_}
 use Prim.Native.Nat.{ℕ}
 use native.Mathlib.Omega.{arith}
 use Rattle.std.specs.Options.{isSome}
 use Rattle.std.specs.declared.option.Option.{Option}
 use Rattle.std.specs.declared.option.Option.the-variants.{Some, None}
-use Rattle.std.proofs.shelf.Tests.{true≢false}
 use Rattle.bytes.specs.Classes.{Bytes}
 use Rattle.layout.specs.declared.set_id.SetId.{SetId}
 use Rattle.layout.specs.Layouts.{headerOf}
 use Rattle.layout.specs.SetIds.{setIdIn}
-use Rattle.file.specs.Records.{firstOf, othersOf, isDetail, many}
+use Rattle.file.specs.Records.{firstOf, othersOf}
 use Rattle.book.specs.Meaning.{BookMeaning}
 use Rattle.transaction.specs.declared.header.Transaction.{Transaction}
-use Rattle.transaction.specs.declared.pairs.Pairs.{Pairs}
 use Rattle.transaction.specs.declared.verdict.Verdict.{Verdict}
 use Rattle.transaction.specs.declared.verdict.Verdict.the-variants.{Accepted, Refused}
-use Rattle.transaction.specs.Checks.{Holds, ownChecks, ownVerdict, checksUnder, checksOfSet, recordsChecks}
-use Rattle.transaction.specs.Details.{DetailRead, detailsOf}
+use Rattle.transaction.specs.Checks.{Holds, ownChecks, ownVerdict, checksUnder, checksOfSet}
+use Rattle.transaction.specs.Details.{detailsOf}
 use Rattle.transaction.specs.Headers.{readingOf, ownPair, originalPair}
 use Rattle.transaction.specs.Pairs as touched
 use Rattle.transaction.specs.Sounds.{readingIn, readingUnder}
 use Rattle.transaction.specs.Verdicts.{Check, check, verdict, refusal}
-use Rattle.promises.specs.Judging.{bookChecks, bookChecksAny, allChecks, judge}
+use Rattle.promises.specs.Judging.{bookChecks, bookChecksAny, judge}
 use Rattle.promises.specs.Related.{listed, listedIn, pairsIn}
 
 -- the second where the first passes

@@ -1,11 +1,10 @@
 -- What follows in an agency's own words.
 use mathlib.Core.Path.{_≡_, refl, sym, ap, ap₂, _∙_, subst}
-use mathlib.Core.Bool.{Bool, true, false, cond, _&&_}
-use mathlib.Core.List.{List, [], _∷_, _++_}
-use Prim.Native.Nat.{ℕ, zero, suc, _+_, _-_, _≤_, _<_}
+use mathlib.Core.Bool.{Bool, true, false, cond}
+use mathlib.Core.List.{List, [], _∷_}
+use Prim.Native.Nat.{ℕ, _-_, _≤_}
 use native.Mathlib.Omega.{arith}
 use lib.Dec.{eqb}
-use lib.ListN.{length, getD}
 use Rattle.std.specs.Options.{isSome, mapped}
 use Rattle.std.specs.declared.option.Option.{Option}
 use Rattle.std.specs.declared.option.Option.the-variants.{Some, None}
@@ -14,38 +13,32 @@ use Rattle.std.specs.declared.result.Result.the-variants.{Ok, Err}
 use Rattle.std.specs.shelf.Lists.{All, Has, kept-by}
 use Rattle.std.specs.shelf.Text.{sameBytes}
 use Rattle.std.proofs.shelf.Elements.{all-has, all-weaker, has-append-right}
-use Rattle.std.proofs.shelf.Tests.{both-ways, true≢false}
+use Rattle.std.proofs.shelf.Tests.{both-ways}
 use Rattle.bytes.specs.Classes.{Bytes}
 use Rattle.layout.specs.declared.pair.Pair.{Pair}
 use Rattle.file.specs.declared.opening.Opening.{Opening}
-use Rattle.file.specs.declared.opening.OpeningFault.{OpeningFault}
 use Rattle.file.specs.Openings.{opening}
-use Rattle.file.specs.Records.{firstOf, othersOf, transactionsOf}
+use Rattle.file.specs.Records.{othersOf, transactionsOf}
 use Rattle.book.specs.Lists.{before, find, place}
-use Rattle.book.specs.Meaning.{BookMeaning, EntryHeld, MarkHeld, samePair, fresh, underMark, markFirst, entryAt, markAt, freeMarks, markUnder, emptyBook}
-use Rattle.book.specs.Actions.{less}
+use Rattle.book.specs.Meaning.{BookMeaning, EntryHeld, MarkHeld, underMark, markFirst, entryAt, markAt, freeMarks, markUnder, emptyBook}
 use Rattle.book.specs.Told.{EntryTold, entryTold}
 use Rattle.transaction.specs.declared.header.Transaction.{Transaction}
-use Rattle.transaction.specs.declared.verdict.Verdict.{Verdict}
-use Rattle.transaction.specs.declared.verdict.Verdict.the-variants.{Accepted, Refused}
 use Rattle.transaction.specs.Checks.{Holds}
-use Rattle.transaction.specs.Details.{DetailRead, detailsOf}
-use Rattle.transaction.specs.Headers.{setIdOf, totalOf, ownPair, originalPair}
-use Rattle.transaction.specs.Sounds.{readingIn}
-use Rattle.promises.specs.Against.{adjusts}
+use Rattle.transaction.specs.Details.{detailsOf}
+use Rattle.transaction.specs.Headers.{totalOf, ownPair}
 use Rattle.promises.specs.Judging.{judge}
-use Rattle.promises.specs.Entering.{entryOf, apply, applyIf, entered, verdicts, after}
+use Rattle.promises.specs.Entering.{entered, verdicts, after}
 use Rattle.promises.specs.Calls.{Handed, tooSmall, postOpened, postGate, posted, answerWith, countsOf, postAnswer, postBookAt, postBook, Call, checking, posting, showing, seeking, counting, called, run, showAnswer}
 use Rattle.promises.specs.Accounts.{Acceptance, acceptedIn}
-use Rattle.promises.specs.Tells.{isPair, owners, adjusted, EntryOf, Shown, Tells, NeverPassTotal}
+use Rattle.promises.specs.Tells.{isPair, owners, adjusted, Shown, NeverPassTotal}
 use Rattle.promises.specs.Lasting.{Lasts, NeverGrows, PostedOnce, acceptedOnes, RejectedLeaveNothing}
 use Rattle.promises.proofs.Tables.{same-is, same-self, before-self, samePair-self, find-place}
-use Rattle.promises.proofs.Judged.{Sound, book-passes, refused-not}
+use Rattle.promises.proofs.Judged.{book-passes}
 use Rattle.promises.proofs.Frame.{Done, nothing, applied, done, after-used}
 use Rattle.promises.proofs.Passing.{some-not}
-use Rattle.promises.proofs.Posts.{no-ok, gate-opens}
-use Rattle.promises.proofs.Told.{entry-next, vacant-at, open-at, takes, next, show-tells}
-use Rattle.promises.proofs.OneReplaced.{packed, Packed}
+use Rattle.promises.proofs.Posts.{gate-opens}
+use Rattle.promises.proofs.Told.{entry-next, vacant-at, takes, next, show-tells}
+use Rattle.promises.proofs.OneReplaced.{packed}
 
 -- ---- an open amount never grows
 

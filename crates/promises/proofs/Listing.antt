@@ -1,43 +1,37 @@
 -- What each check of a transaction tells: a code of its record or of the whole, a record that there is, a column of a layout.
-use mathlib.Core.Path.{_≡_, refl, sym, ap, _∙_, subst}
+use mathlib.Core.Path.{_≡_, refl}
 use mathlib.Core.Bool.{Bool, true, false, cond, not, _&&_, _||_}
 use mathlib.Core.List.{List, [], _∷_, _++_, map}
-use Prim.Native.Nat.{ℕ, zero, suc, _+_, _≤_, _<_}
+use Prim.Native.Nat.{ℕ, suc, _+_, _≤_, _<_}
 use native.Mathlib.Omega.{arith}
 use lib.Dec.{eqb, leb, ltb}
 use lib.ListN.{length}
-use Rattle.std.specs.Options.{isSome}
 use Rattle.std.specs.declared.option.Option.{Option}
 use Rattle.std.specs.declared.option.Option.the-variants.{Some, None}
 use Rattle.std.specs.shelf.Lists.{All, joined}
-use Rattle.std.proofs.shelf.Elements.{all-append, all-weaker}
+use Rattle.std.proofs.shelf.Elements.{all-append}
 use Rattle.std.proofs.shelf.Tests.{and-parts, ltb-true}
 use Rattle.bytes.specs.Classes.{Bytes}
 use Rattle.layout.specs.declared.Layout.{Layout}
 use Rattle.layout.specs.declared.Layout.the-variants.{PaymentHeader, PaymentDetail, AdjustmentHeader, AdjustmentDetail, SglEntry, ZeroDollarHeader, ZeroDollarDetail, PostSglHeader, PostSglDetail, PostSglEntry}
-use Rattle.layout.specs.declared.companion.Companion.{Companion}
 use Rattle.layout.specs.declared.field.Field.{Field}
 use Rattle.layout.specs.declared.pair.Pair.{Pair}
 use Rattle.layout.specs.declared.set_id.SetId.{SetId}
 use Rattle.layout.specs.declared.set_id.SetId.the-variants.{Payment, Collection, ReceiverAdjustment, SenderAdjustment, ZeroDollar, PostSgl}
 use Rattle.layout.specs.Companions.{companionsOf, refusedStart}
 use Rattle.layout.specs.Fields.{startOf}
-use Rattle.layout.specs.Layouts.{headerOf, widthOf, fieldsOf}
-use Rattle.layout.specs.SetIds.{setIdIn}
-use Rattle.file.specs.Records.{isDetail, many, firstOf, othersOf}
+use Rattle.layout.specs.Layouts.{fieldsOf}
+use Rattle.file.specs.Records.{isDetail, many}
 use Rattle.book.specs.Meaning.{BookMeaning, EntryHeld, LineHeld}
 use Rattle.transaction.specs.declared.header.Transaction.{Transaction}
-use Rattle.transaction.specs.declared.verdict.Verdict.{Verdict}
-use Rattle.transaction.specs.declared.verdict.Verdict.the-variants.{Accepted, Refused}
-use Rattle.transaction.specs.Checks.{Holds, productPasses, detailCount, totalPasses, fieldChecks, companionCheck, checksUnder, checksUnderAny, layoutAt, recordChecks, recordsChecks, entrySetCheck, checksOfSet, ownChecks}
+use Rattle.transaction.specs.Checks.{Holds, productPasses, detailCount, totalPasses, fieldChecks, companionCheck, checksUnder, checksUnderAny, layoutAt, recordChecks, recordsChecks, entrySetCheck}
 use Rattle.transaction.specs.Details.{DetailRead, readAs, entrySet, untilDetail, detailsFrom, detailsOf}
 use Rattle.transaction.specs.Headers.{setIdOf, totalOf, ownPair, originalPair}
-use Rattle.transaction.specs.Sounds.{readingIn}
-use Rattle.transaction.specs.Verdicts.{Check, check, verdict, refusal}
+use Rattle.transaction.specs.Verdicts.{Check, check}
 use Rattle.promises.specs.Held.{Held, at, checksAt}
 use Rattle.promises.specs.Against.{adjusts, latest, originalColumn, itemColumn, lineChecks, lineChecksAny, lineNamed, detailChecks, entryChecks, originalChecks}
 use Rattle.promises.specs.Own.{ownColumn, ownPairChecks, placeChecks}
-use Rattle.promises.specs.Judging.{bookChecks, bookChecksAny, allChecks, judge}
+use Rattle.promises.specs.Judging.{bookChecks, bookChecksAny}
 
 -- the codes of a record, and those of the whole transaction
 abbrev pub isRecordCode : ℕ → Bool

@@ -1,10 +1,9 @@
 -- A transaction's pairs by its verdict.
-use mathlib.Core.Path.{_≡_, refl, sym, ap, ap₂, _∙_, subst}
-use mathlib.Core.Bool.{Bool, true, false, cond, _&&_, _||_}
+use mathlib.Core.Path.{_≡_, refl, sym, ap, _∙_, subst}
+use mathlib.Core.Bool.{Bool, true, false, cond}
 use mathlib.Core.List.{List, [], _∷_, _++_, map}
-use Prim.Native.Nat.{ℕ, _+_, _≤_, _<_}
+use Prim.Native.Nat.{ℕ, _+_, _≤_}
 use native.Mathlib.Omega.{arith}
-use lib.Dec.{eqb, leb}
 use lib.ListN.{length}
 use Rattle.std.specs.Options.{isSome}
 use Rattle.std.specs.declared.option.Option.{Option}
@@ -15,7 +14,6 @@ use Rattle.std.proofs.shelf.Tests.{both-ways}
 use Rattle.std.proofs.shelf.Ways.{tells}
 use Rattle.bytes.specs.Classes.{Bytes}
 use Rattle.layout.specs.declared.Layout.{Layout}
-use Rattle.layout.specs.declared.companion.Companion.{Companion}
 use Rattle.layout.specs.declared.field.Field.{Field}
 use Rattle.layout.specs.declared.set_id.SetId.{SetId}
 use Rattle.layout.specs.declared.set_id.SetId.the-variants.{Payment, Collection, ReceiverAdjustment, SenderAdjustment, ZeroDollar, PostSgl}
@@ -23,9 +21,7 @@ use Rattle.layout.specs.Companions.{companionsOf}
 use Rattle.layout.specs.Layouts.{headerOf, fieldsOf}
 use Rattle.layout.specs.SetIds.{setIdIn}
 use Rattle.file.specs.Records.{firstOf, othersOf}
-use Rattle.book.specs.Meaning.{BookMeaning}
 use Rattle.transaction.specs.declared.header.Transaction.{Transaction}
-use Rattle.transaction.specs.declared.pairs.Pairs.{Pairs}
 use Rattle.transaction.specs.declared.verdict.Verdict.{Verdict}
 use Rattle.transaction.specs.declared.verdict.Verdict.the-variants.{Accepted, Refused}
 use Rattle.transaction.specs.Checks.{Holds, productPasses, fieldChecks, companionCheck, checksUnder, checksOfSet}
@@ -35,7 +31,7 @@ use Rattle.transaction.specs.Pairs as touched
 use Rattle.transaction.specs.Sounds.{readingUnder}
 use Rattle.transaction.specs.Verdicts.{Check, check, verdict, refusal}
 use Rattle.promises.specs.Judging.{bookChecks, bookChecksAny}
-use Rattle.promises.specs.NoPairs.{isHeaderCode, refusesHeader, pairsRead, PairsByVerdict}
+use Rattle.promises.specs.NoPairs.{refusesHeader, pairsRead, PairsByVerdict}
 use Rattle.promises.specs.Related.{listedIn}
 use Rattle.promises.proofs.Judged.{then, verdict-append}
 use Rattle.promises.proofs.Listing.{isRecordCode, isWholeCode, Says, all-joined, behindHeader, behind-says, book-any-says}

@@ -1,9 +1,9 @@
 -- One transaction of a file replaced, from the bytes to the packets.
-use mathlib.Core.Path.{_≡_, refl, sym, ap, ap₂, _∙_, subst}
+use mathlib.Core.Path.{_≡_, refl, sym, ap, _∙_, subst}
 use mathlib.Core.Bool.{Bool, true, false, cond}
 use mathlib.Core.List.{List, [], _∷_, _++_, map}
-use mathlib.Core.Logic.{_⊎_, inl, inr}
-use Prim.Native.Nat.{ℕ, zero, suc, _+_, _*_, _≤_, _<_}
+use mathlib.Core.Logic.{_⊎_, inr}
+use Prim.Native.Nat.{ℕ, zero, suc, _+_}
 use native.Mathlib.Omega.{arith}
 use lib.ListN.{length}
 use Rattle.std.specs.declared.option.Option.{Option}
@@ -19,16 +19,16 @@ use Rattle.file.specs.declared.opening.Opening.{Opening}
 use Rattle.file.specs.declared.opening.OpeningFault.{OpeningFault}
 use Rattle.file.specs.Openings.{opening, codeOf}
 use Rattle.file.specs.Records.{records, isDetail, many, transactions, transactionsOf}
-use Rattle.book.specs.Meaning.{BookMeaning, freeEntries, freeLines}
+use Rattle.book.specs.Meaning.{BookMeaning}
 use Rattle.transaction.specs.declared.verdict.Verdict.{Verdict}
 use Rattle.transaction.specs.Checks.{Holds}
 use Rattle.transaction.specs.Details.{sumOf}
 use Rattle.promises.specs.Judging.{judge}
 use Rattle.promises.specs.Entering.{entered, verdicts, after}
 use Rattle.promises.specs.Packets.{packetOf, verdictAt}
-use Rattle.promises.specs.Calls.{Handed, Answer, tooSmall, checkOpened, checkGate, postGate, checked, posted, answerWith, checkAnswer, postAnswer}
+use Rattle.promises.specs.Calls.{Handed, tooSmall, checkOpened, checkGate, postGate, checked, posted, answerWith, postAnswer}
 use Rattle.promises.specs.Related.{transactionsIn, transactionCount, detailCount, Enough}
-use Rattle.promises.specs.Replaced.{Whole, Replaced, placeOf, replacedPairs, SameBut, handed, Inside, Outside, CheckLeavesOthers, PostLeavesOthers, PostLeavesEarlier, PostLeavesUnlinked}
+use Rattle.promises.specs.Replaced.{Replaced, placeOf, replacedPairs, SameBut, handed, Inside, Outside, CheckLeavesOthers, PostLeavesOthers, PostLeavesEarlier, PostLeavesUnlinked}
 use Rattle.promises.proofs.Cuts.{between}
 use Rattle.promises.proofs.Items.{same-at}
 use Rattle.promises.proofs.Posts.{no-ok, gate-opens, opened-has}

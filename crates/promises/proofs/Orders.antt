@@ -1,5 +1,5 @@
 -- The orders of the keys, and rows put in their places in either order.
-use mathlib.Core.Path.{_≡_, refl, sym, ap, _∙_}
+use mathlib.Core.Path.{_≡_, refl, sym}
 use mathlib.Core.Bool.{Bool, true, false, cond, _&&_, _||_}
 use mathlib.Core.List.{List, [], _∷_}
 use mathlib.Core.Logic.{_⊎_, inl, inr, ⊎-elim}
@@ -7,7 +7,7 @@ use Prim.Native.Nat.{ℕ, _<_}
 use native.Mathlib.Omega.{arith}
 use lib.Dec.{eqb, ltb}
 use Rattle.std.proofs.shelf.Ways.{tells}
-use Rattle.std.proofs.shelf.Tests.{both-ways, true≢false, eqb-true, ltb-true, ltb-false, cases-order, lt-ltb, eq-eqb, ne-eqb, and-parts, or-cases, le-ltb, cases-bool, or-left, or-right, or-from, and-right}
+use Rattle.std.proofs.shelf.Tests.{both-ways, true≢false, cases-order, lt-ltb, eq-eqb, and-parts, or-cases, le-ltb, or-left, or-right, or-from, and-right}
 use Rattle.promises.proofs.Tables.{same-is, same-self, samePair-is, samePair-self}
 use Rattle.std.specs.shelf.Text.{sameBytes}
 use Rattle.bytes.specs.Classes.{Bytes}

@@ -1,10 +1,8 @@
 -- Pairs in common, and pairs apart.
-use mathlib.Core.Path.{_≡_, refl, sym, ap, _∙_}
-use mathlib.Core.Bool.{Bool, true, false, cond, _||_}
-use mathlib.Core.List.{List, [], _∷_, _++_}
-use Prim.Native.Nat.{ℕ, zero, suc, _+_, _<_}
+use mathlib.Core.Path.{_≡_, refl}
+use mathlib.Core.Bool.{Bool, true, false, _||_}
+use mathlib.Core.List.{List, [], _∷_}
 use native.Mathlib.Omega.{arith}
-use lib.ListN.{length, getD}
 use Rattle.std.specs.shelf.Lists.{All, Has, joined}
 use Rattle.std.proofs.shelf.Elements.{has-append-left, has-append-right, all-has-itself, all-weaker}
 use Rattle.std.proofs.shelf.Tests.{or-parts, or-left, or-right}

@@ -1,8 +1,8 @@
 -- What an accepted transaction found in the book: nothing under its own pair, places enough, and an original with enough open.
-use mathlib.Core.Path.{_≡_, refl, sym, ap, _∙_, subst}
+use mathlib.Core.Path.{_≡_, refl, sym, subst}
 use mathlib.Core.Bool.{Bool, true, false, cond, not, _&&_, _||_}
 use mathlib.Core.List.{List, [], _∷_, _++_}
-use Prim.Native.Nat.{ℕ, suc, _+_, _-_, _≤_}
+use Prim.Native.Nat.{ℕ, _+_, _-_, _≤_}
 use native.Mathlib.Omega.{arith}
 use lib.Dec.{leb}
 use lib.ListN.{length}
@@ -12,13 +12,13 @@ use Rattle.std.specs.declared.option.Option.{Option}
 use Rattle.std.specs.declared.option.Option.the-variants.{Some, None}
 use Rattle.std.proofs.shelf.Tests.{leb-true, and-parts, true≢false}
 use Rattle.layout.specs.declared.pair.Pair.{Pair}
-use Rattle.book.specs.Meaning.{BookMeaning, EntryHeld, LineHeld, entryAt, lineAt, freeEntries, freeLines}
+use Rattle.book.specs.Meaning.{BookMeaning, EntryHeld, entryAt, lineAt, freeEntries, freeLines}
 use Rattle.transaction.specs.declared.header.Transaction.{Transaction}
-use Rattle.transaction.specs.declared.verdict.Verdict.the-variants.{Accepted, Refused}
+use Rattle.transaction.specs.declared.verdict.Verdict.the-variants.{Accepted}
 use Rattle.transaction.specs.Details.{DetailRead}
 use Rattle.transaction.specs.Headers.{setIdOf, totalOf, ownPair, originalPair}
 use Rattle.transaction.specs.Verdicts.{Check, check, verdict}
-use Rattle.promises.specs.Held.{Held, at, checksAt}
+use Rattle.promises.specs.Held.{at, checksAt}
 use Rattle.promises.specs.Against.{adjusts, originalColumn, latest, serves, detailChecks, entryChecks, originalChecks}
 use Rattle.promises.specs.Own.{ownColumn, linesOf, noLines, ownPairChecks, hasPlaces, placeChecks}
 use Rattle.promises.specs.Judging.{bookChecks}

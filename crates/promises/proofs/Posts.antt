@@ -1,17 +1,16 @@
 -- Two unrelated files: the second post is judged as if the first had not been.
-use mathlib.Core.Path.{_≡_, refl, sym, ap, ap₂, _∙_, subst}
+use mathlib.Core.Path.{_≡_, refl, sym, ap, _∙_, subst}
 use mathlib.Core.Bool.{Bool, true, false, cond}
-use mathlib.Core.List.{List, [], _∷_, _++_}
-use Prim.Native.Nat.{ℕ, suc, _+_, _-_, _*_, _≤_, _<_}
+use mathlib.Core.List.{List, [], _∷_}
+use Prim.Native.Nat.{ℕ, _+_, _-_, _≤_, _<_}
 use native.Mathlib.Omega.{arith}
-use lib.Dec.{eqb, ltb}
+use lib.Dec.{eqb}
 use lib.ListN.{length}
 use Rattle.std.specs.Options.{isSome}
-use Rattle.std.specs.declared.option.Option.{Option}
-use Rattle.std.specs.declared.option.Option.the-variants.{Some, None}
+use Rattle.std.specs.declared.option.Option.the-variants.{Some}
 use Rattle.std.specs.declared.result.Result.{Result}
 use Rattle.std.specs.declared.result.Result.the-variants.{Ok, Err}
-use Rattle.std.specs.shelf.Lists.{Has, joined, sumBy}
+use Rattle.std.specs.shelf.Lists.{joined, sumBy}
 use Rattle.std.specs.shelf.Text.{sameBytes}
 use Rattle.std.proofs.shelf.Tests.{ne-eqb}
 use Rattle.bytes.specs.Classes.{Bytes}
@@ -22,18 +21,18 @@ use Rattle.file.specs.Openings.{opening, codeOf}
 use Rattle.file.specs.Records.{isDetail, many, transactionsOf}
 use Rattle.book.specs.declared.mark.Counts.{Counts}
 use Rattle.book.specs.Lists.{find, place}
-use Rattle.book.specs.Meaning.{BookMeaning, MarkHeld, underMark, markFirst, markAt, freeMarks, freeEntries, freeLines, markUnder, counted, acceptedIn, rejectedIn}
+use Rattle.book.specs.Meaning.{BookMeaning, MarkHeld, underMark, markFirst, markAt, freeMarks, markUnder, acceptedIn, rejectedIn}
 use Rattle.transaction.specs.declared.verdict.Verdict.{Verdict}
 use Rattle.transaction.specs.Checks.{Holds}
 use Rattle.transaction.specs.Details.{sumOf}
 use Rattle.promises.specs.Held.{at}
-use Rattle.promises.specs.Entering.{verdicts, after}
-use Rattle.promises.specs.Packets.{packetOf, acceptedCount, rejectedCount}
-use Rattle.promises.specs.Calls.{Handed, Answer, tooSmall, postOpened, postGate, posted, answerWith, postAnswer, countsOf, postBookAt, postBook, countAnswer}
+use Rattle.promises.specs.Entering.{after}
+use Rattle.promises.specs.Packets.{acceptedCount, rejectedCount}
+use Rattle.promises.specs.Calls.{Handed, tooSmall, postOpened, postGate, posted, answerWith, postAnswer, countsOf, postBookAt, postBook, countAnswer}
 use Rattle.promises.specs.Related.{pairsIn, opensTo, transactionsIn, transactionCount, detailCount, filePairs, Enough}
 use Rattle.promises.specs.EitherOrder.{Unrelated}
 use Rattle.promises.proofs.Tables.{same-is, find-place, length-place, sumBy-place}
-use Rattle.promises.proofs.Frame.{Within, Used, after-used, after-outside, Room, Alike, verdicts-alike}
+use Rattle.promises.proofs.Frame.{Within, after-used, after-outside, Room, verdicts-alike}
 use Rattle.promises.proofs.Pairs.{among, apart-within, none-among}
 
 pub no-ok : {X Y : Type 0} (x : X) (y : Y) → _≡_ {A = Result X Y} (Err y) (Ok x) → ⊥

@@ -1,13 +1,11 @@
 -- The three promises of one run.
-use mathlib.Core.Path.{_≡_, refl, sym, ap, _∙_, subst}
-use mathlib.Core.List.{List, [], _∷_, _++_}
-use Prim.Native.Nat.{ℕ}
-use Rattle.book.specs.Meaning.{BookMeaning, emptyBook}
-use Rattle.transaction.specs.Checks.{Holds}
-use Rattle.promises.specs.Calls.{Call, run}
+use mathlib.Core.Path.{sym, ap, _∙_, subst}
+use mathlib.Core.List.{_++_}
+use Rattle.book.specs.Meaning.{emptyBook}
+use Rattle.promises.specs.Calls.{run}
 use Rattle.promises.specs.Accounts.{acceptedIn, rejectedIn}
 use Rattle.promises.specs.Tells.{Tells}
-use Rattle.promises.specs.Promises.{Promised, Promises}
+use Rattle.promises.specs.Promises.{Promises}
 use Rattle.promises.proofs.OneReplaced.{check-leaves-others, post-leaves-others}
 use Rattle.promises.proofs.SameBook.{either-order, run-append}
 use Rattle.promises.proofs.Told.{show-tells}

@@ -1,7 +1,7 @@
 -- What is read from a packet is what was said.
 use mathlib.Core.Path.{_≡_, refl, sym, ap, ap₂, _∙_, subst}
-use mathlib.Core.Bool.{Bool, true, false, cond, not, _&&_}
-use mathlib.Core.List.{List, [], _∷_, _++_, map}
+use mathlib.Core.Bool.{Bool, true, false, cond, not}
+use mathlib.Core.List.{List, [], _∷_, map}
 use Prim.Native.Nat.{ℕ, zero, suc, _+_, _-_, _*_, _/_, _%_, _^_, _≤_, _<_}
 use native.Mathlib.Nat.{pow-suc, pow-le-pow-right, mul-le-mul-right}
 use native.Mathlib.Omega.{arith}
@@ -10,7 +10,6 @@ use lib.ListN.{length, take, drop}
 use Rattle.std.specs.declared.result.Result.{Result}
 use Rattle.std.specs.declared.result.Result.the-variants.{Ok, Err}
 use Rattle.std.specs.shelf.Lists.{All}
-use Rattle.std.proofs.shelf.Elements.{all-weaker}
 use Rattle.std.proofs.shelf.Lists.{take-at, drop-at, length-drop}
 use Rattle.std.proofs.shelf.Tests.{ne-eqb, ltb-false, and-parts, leb-true}
 use Rattle.bytes.specs.Classes.{Bytes, isDigit}
@@ -29,11 +28,11 @@ use Rattle.transaction.specs.Checks.{Holds}
 use Rattle.promises.specs.Judging.{judge}
 use Rattle.promises.specs.Entering.{entered, verdicts}
 use Rattle.promises.specs.Packets.{two, four, verdictItem, verdictItems, isAccepted, acceptedCount, packetOf, packetLength, little, verdictFrom, verdictsFrom, PacketRead, readPacket}
-use Rattle.promises.specs.Calls.{Handed, tooSmall, postOpened, checkGate, postGate, checked, posted, checkAnswer, postAnswer}
-use Rattle.promises.specs.ReadBack.{VerdictFits, saidOf, ReadsAs, ReadsBack}
+use Rattle.promises.specs.Calls.{Handed, tooSmall, postOpened, checkGate, postGate, checked, posted}
+use Rattle.promises.specs.ReadBack.{VerdictFits, ReadsAs, ReadsBack}
 use Rattle.promises.proofs.Fits.{verdicts-fit}
 use Rattle.promises.proofs.Items.{sixteen, behind-file, packet-long}
-use Rattle.promises.proofs.OneReplaced.{packed, Packed, check-opens}
+use Rattle.promises.proofs.OneReplaced.{packed, check-opens}
 use Rattle.promises.proofs.Posts.{no-ok, gate-opens}
 use Rattle.promises.proofs.Replaces.{length-verdicts}
 

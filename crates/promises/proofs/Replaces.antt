@@ -1,27 +1,20 @@
 -- One transaction of a list replaced: the others get the same verdicts.
-use mathlib.Core.Path.{_≡_, refl, sym, ap, ap₂, _∙_, subst}
-use mathlib.Core.Bool.{Bool, true, false, cond}
+use mathlib.Core.Path.{_≡_, refl, sym, ap, _∙_}
 use mathlib.Core.List.{List, [], _∷_, _++_, map}
-use Prim.Native.Nat.{ℕ, zero, suc, _+_, _-_, _≤_, _<_}
+use Prim.Native.Nat.{ℕ, zero, suc, _+_, _-_, _≤_}
 use native.Mathlib.Omega.{arith}
 use lib.ListN.{length}
-use Rattle.std.specs.shelf.Lists.{All, Has, joined}
 use Rattle.std.specs.shelf.Maps.{nth}
 use Rattle.std.proofs.shelf.Lists.{map-append, length-append, length-map}
-use Rattle.std.proofs.shelf.Elements.{has-append-left, has-append-right}
 use Rattle.bytes.specs.Classes.{Bytes}
-use Rattle.layout.specs.declared.pair.Pair.{Pair}
 use Rattle.file.specs.Records.{isDetail, many}
-use Rattle.book.specs.Meaning.{BookMeaning, samePair, freeEntries, freeLines}
+use Rattle.book.specs.Meaning.{BookMeaning, freeEntries, freeLines}
 use Rattle.transaction.specs.declared.verdict.Verdict.{Verdict}
 use Rattle.transaction.specs.Checks.{Holds}
 use Rattle.transaction.specs.Details.{sumOf}
-use Rattle.promises.specs.Held.{at}
 use Rattle.promises.specs.Judging.{judge}
 use Rattle.promises.specs.Entering.{entered, verdicts, after}
-use Rattle.promises.specs.Related.{pairsIn}
-use Rattle.promises.proofs.Frame.{all-left, all-right, Within, after-used, entered-used, entered-outside, Room, verdicts-alike}
-use Rattle.promises.proofs.Pairs.{among, not-among, none-among}
+use Rattle.promises.proofs.Frame.{after-used, entered-used, Room}
 
 abbrev pub OthersAlike : ℕ → List Verdict → List Verdict → Type 0
 OthersAlike place vs ws = (k : ℕ) → (k ≡ place → ⊥) → nth vs k ≡ nth ws k

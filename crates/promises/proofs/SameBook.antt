@@ -1,8 +1,8 @@
 -- Two unrelated files in either order: the same book.
 use mathlib.Core.Path.{_≡_, refl, sym, ap, ap₂, _∙_, subst}
-use mathlib.Core.Bool.{Bool, true, false, cond}
+use mathlib.Core.Bool.{Bool, true, false}
 use mathlib.Core.List.{List, [], _∷_, _++_}
-use Prim.Native.Nat.{ℕ, _+_, _≤_}
+use Prim.Native.Nat.{ℕ, _+_}
 use native.Mathlib.Omega.{arith}
 use lib.ListN.{length}
 use Rattle.std.specs.declared.option.Option.{Option}
@@ -30,16 +30,16 @@ use Rattle.transaction.specs.Verdicts.{Check, verdict}
 use Rattle.promises.specs.Held.{Held, checksAt}
 use Rattle.promises.specs.Against.{originalChecks}
 use Rattle.promises.specs.Own.{ownPairChecks, placeChecks}
-use Rattle.promises.specs.Judging.{bookChecks, bookChecksAny, judge}
+use Rattle.promises.specs.Judging.{bookChecksAny, judge}
 use Rattle.promises.specs.Entering.{takenFrom, takeAt, apply, applyIf, entered, after}
 use Rattle.promises.specs.Calls.{Handed, Call, checking, posting, showing, seeking, counting, called, run, postGate, posted, countsOf, postAnswer, postBookAt, postBook, showAnswer, countAnswer}
-use Rattle.promises.specs.Related.{pairsIn, transactionsIn, transactionCount, detailCount, filePairs, Enough}
-use Rattle.promises.specs.EitherOrder.{Unrelated, IsNoPost, inOrder, SameEitherWay, EitherOrder}
+use Rattle.promises.specs.Related.{pairsIn, transactionCount, detailCount, Enough}
+use Rattle.promises.specs.EitherOrder.{Unrelated, IsNoPost, inOrder, EitherOrder}
 use Rattle.promises.proofs.Tables.{same-is, samePair-is}
 use Rattle.promises.proofs.Orders.{marks-swap}
 use Rattle.promises.proofs.Effect.{putOwn, apply-is}
 use Rattle.promises.proofs.Pairs.{all-has}
-use Rattle.promises.proofs.Swaps.{Apart, Both, list-past}
+use Rattle.promises.proofs.Swaps.{Apart, list-past}
 use Rattle.promises.proofs.Posts.{gate-opens, opened-has, second-gate, second-posted, second-answer}
 
 -- marks are of no account to a transaction

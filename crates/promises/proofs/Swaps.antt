@@ -1,6 +1,6 @@
 -- Transactions of which neither has a pair of the other, entered in either order: the same book.
 use mathlib.Core.Path.{_≡_, refl, sym, ap, ap₂, _∙_, subst}
-use mathlib.Core.Bool.{Bool, true, false, cond, _&&_}
+use mathlib.Core.Bool.{false}
 use mathlib.Core.List.{List, [], _∷_, _++_}
 use Prim.Native.Nat.{ℕ, suc, _+_, _-_, _≤_}
 use native.Mathlib.Omega.{arith}
@@ -22,7 +22,6 @@ use Rattle.transaction.specs.Checks.{Holds}
 use Rattle.transaction.specs.Details.{DetailRead, detailsOf, sumOf}
 use Rattle.transaction.specs.Headers.{setIdOf, totalOf, ownPair, originalPair}
 use Rattle.transaction.specs.Sounds.{readingIn}
-use Rattle.promises.specs.Held.{at}
 use Rattle.promises.specs.Own.{linesOf}
 use Rattle.promises.specs.Judging.{judge}
 use Rattle.promises.specs.Entering.{entryOf, lineOf, takenFrom, takeAt, apply, applyIf, entered, after}
@@ -30,7 +29,6 @@ use Rattle.promises.specs.Related.{listed, pairsIn}
 use Rattle.promises.proofs.Tables.{samePair-is, samePair-flip, change-other, change-two}
 use Rattle.promises.proofs.Orders.{entries-swap, lines-swap}
 use Rattle.promises.proofs.Effect.{linesPut, putOwn, apply-is}
-use Rattle.promises.proofs.Judged.{Sound}
 use Rattle.promises.proofs.Frame.{all-left, all-right, taken-among, Room, Done, nothing, applied, done, judge-alike, entered-outside, entered-used}
 
 lines-past : (p : Pair) (set : SetId) (ds : List DetailRead) (k : ℕ) (l : LineHeld) (ls : List LineHeld) → samePair p (l .pair) ≡ false → linesPut p set k ds (place lineFirst l ls) ≡ place lineFirst l (linesPut p set k ds ls)

@@ -1,8 +1,8 @@
 -- Show and count tell what was accepted and rejected, whatever calls were made.
 use mathlib.Core.Path.{_≡_, refl, sym, ap, ap₂, _∙_, subst}
-use mathlib.Core.Bool.{Bool, true, false, cond, not, _&&_, _||_}
+use mathlib.Core.Bool.{Bool, true, false, cond, _&&_}
 use mathlib.Core.List.{List, [], _∷_, _++_, append-assoc, append-nil}
-use Prim.Native.Nat.{ℕ, zero, suc, _+_, _-_, _≤_, _<_}
+use Prim.Native.Nat.{ℕ, _+_, _-_, _≤_}
 use native.Mathlib.Omega.{arith}
 use lib.ListN.{length}
 use Rattle.std.specs.Options.{mapped}
@@ -10,20 +10,17 @@ use Rattle.std.specs.declared.option.Option.{Option}
 use Rattle.std.specs.declared.option.Option.the-variants.{Some, None}
 use Rattle.std.specs.declared.result.Result.{Result}
 use Rattle.std.specs.declared.result.Result.the-variants.{Ok, Err}
-use Rattle.std.specs.shelf.Lists.{kept-by, Has}
 use Rattle.std.proofs.shelf.Lists.{length-append}
 use Rattle.std.proofs.shelf.Elements.{kept-by-append}
 use Rattle.bytes.specs.Classes.{Bytes}
 use Rattle.layout.specs.declared.pair.Pair.{Pair}
 use Rattle.file.specs.declared.opening.Opening.{Opening}
 use Rattle.file.specs.Records.{firstOf, othersOf, transactionsOf}
-use Rattle.book.specs.declared.mark.Counts.{Counts}
 use Rattle.book.specs.Meaning.{BookMeaning, EntryHeld, samePair, fresh, entryAt, emptyBook}
 use Rattle.book.specs.Actions.{less}
-use Rattle.book.specs.Told.{EntryTold, entryTold}
+use Rattle.book.specs.Told.{entryTold}
 use Rattle.transaction.specs.declared.header.Transaction.{Transaction}
-use Rattle.transaction.specs.declared.verdict.Verdict.{Verdict}
-use Rattle.transaction.specs.declared.verdict.Verdict.the-variants.{Accepted, Refused}
+use Rattle.transaction.specs.declared.verdict.Verdict.the-variants.{Accepted}
 use Rattle.transaction.specs.Checks.{Holds}
 use Rattle.transaction.specs.Details.{DetailRead, detailsOf, sumOf}
 use Rattle.transaction.specs.Headers.{setIdOf, totalOf, ownPair, originalPair}
@@ -33,15 +30,15 @@ use Rattle.promises.specs.Against.{adjusts}
 use Rattle.promises.specs.Judging.{bookChecks, judge}
 use Rattle.promises.specs.Entering.{entryOf, takenFrom, apply, entered, verdicts, after}
 use Rattle.promises.specs.Packets.{isAccepted, acceptedCount, rejectedCount}
-use Rattle.promises.specs.Calls.{Handed, postGate, posted, postBookAt, postBook, Call, checking, posting, showing, seeking, counting, called, run, showAnswer, countAnswer}
+use Rattle.promises.specs.Calls.{Handed, postGate, posted, postBookAt, Call, checking, posting, showing, seeking, counting, called, run, countAnswer}
 use Rattle.promises.specs.Accounts.{Acceptance, acceptedIf, acceptedAmong, acceptedAt, rejectedAt, acceptedBy, rejectedBy, acceptedIn, rejectedIn}
-use Rattle.promises.specs.Tells.{isPair, owners, adjustment, adjusted, EntryOf, Shown, Tells, ShowTells, NeverPassTotal}
+use Rattle.promises.specs.Tells.{isPair, owners, adjustment, adjusted, EntryOf, Shown, ShowTells}
 use Rattle.transaction.specs.Verdicts.{verdict}
-use Rattle.promises.proofs.Tables.{samePair-is, samePair-self}
+use Rattle.promises.proofs.Tables.{samePair-is}
 use Rattle.promises.proofs.Effect.{ownEffect, takeEffect, effect, at-apply}
-use Rattle.promises.proofs.Judged.{Sound, book-passes}
+use Rattle.promises.proofs.Judged.{book-passes}
 use Rattle.promises.proofs.Frame.{Done, nothing, applied, done}
-use Rattle.promises.proofs.Passing.{own-vacant, taken-open, Open, Vacant, some-not}
+use Rattle.promises.proofs.Passing.{own-vacant, taken-open, some-not}
 use Rattle.promises.proofs.Posts.{added, count-posted}
 
 -- one pair: what stands in the book, what was accepted

@@ -3,11 +3,10 @@ use mathlib.Core.Path.{_≡_, refl, sym, ap, ap₂, _∙_, subst}
 use mathlib.Core.Bool.{Bool, true, false}
 use mathlib.Core.List.{List, [], _∷_, _++_}
 use mathlib.Core.Logic.{_⊎_, inl, inr}
-use Prim.Native.Nat.{ℕ, zero, suc, _+_, _-_, _≤_, _<_}
+use Prim.Native.Nat.{ℕ, zero, suc, _+_, _-_, _<_}
 use native.Mathlib.Omega.{arith}
 use lib.ListN.{length}
-use Rattle.std.specs.declared.option.Option.{Option}
-use Rattle.std.specs.declared.option.Option.the-variants.{Some, None}
+use Rattle.std.specs.declared.option.Option.the-variants.{Some}
 use Rattle.std.specs.shelf.Lists.{All}
 use Rattle.std.specs.shelf.Maps.{nth}
 use Rattle.std.proofs.shelf.Elements.{all-weaker}
@@ -17,8 +16,6 @@ use Rattle.layout.specs.declared.pair.Pair.{Pair}
 use Rattle.book.specs.Meaning.{BookMeaning, samePair}
 use Rattle.transaction.specs.declared.verdict.Verdict.{Verdict}
 use Rattle.transaction.specs.Checks.{Holds}
-use Rattle.promises.specs.Held.{at}
-use Rattle.promises.specs.Judging.{judge}
 use Rattle.promises.specs.Entering.{entered, verdicts, after}
 use Rattle.promises.specs.Related.{pairsIn}
 use Rattle.promises.specs.Replaced.{Inside, Outside}

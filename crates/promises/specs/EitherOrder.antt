@@ -1,7 +1,6 @@
 -- Unrelated files may come in either order.
 use mathlib.Core.Path.{_≡_}
 use mathlib.Core.List.{List, [], _∷_, _++_}
-use Prim.Native.Nat.{ℕ}
 use Rattle.std.specs.declared.result.Result.the-variants.{Ok}
 use Rattle.std.specs.shelf.Lists.{All, Has}
 use Rattle.bytes.specs.Classes.{Bytes}
@@ -10,7 +9,7 @@ use Rattle.file.specs.declared.opening.Opening.{Opening}
 use Rattle.file.specs.Openings.{opening}
 use Rattle.book.specs.Meaning.{BookMeaning}
 use Rattle.transaction.specs.Checks.{Holds}
-use Rattle.promises.specs.Calls.{Handed, Call, checking, posting, showing, seeking, counting, run, postAnswer, postBook, showAnswer, countAnswer}
+use Rattle.promises.specs.Calls.{Handed, Call, checking, posting, showing, seeking, counting, run, postAnswer, showAnswer, countAnswer}
 use Rattle.promises.specs.Related.{filePairs, Enough}
 
 -- different File ID Numbers, and no pair in common

@@ -10,7 +10,7 @@ use Rattle.layout.specs.declared.set_id.SetId.{SetId}
 use Rattle.file.specs.Records.{firstOf, othersOf}
 use Rattle.book.specs.declared.line.Line.{Line}
 use Rattle.book.specs.declared.new_entry.NewEntry.{NewEntry}
-use Rattle.book.specs.Meaning.{BookMeaning, EntryHeld, LineHeld, fresh, lineUnder}
+use Rattle.book.specs.Meaning.{BookMeaning, fresh, lineUnder}
 use Rattle.book.specs.Actions.{enter, enterLine, takeOpen}
 use Rattle.transaction.specs.declared.header.Transaction.{Transaction}
 use Rattle.transaction.specs.declared.verdict.Verdict.{Verdict}

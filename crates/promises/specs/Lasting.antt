@@ -1,14 +1,12 @@
 -- What calls leave standing, of every book.
 use mathlib.Core.Path.{_≡_}
-use mathlib.Core.List.{List, [], _∷_, _++_}
+use mathlib.Core.List.{List, [], _∷_}
 use Prim.Native.Nat.{ℕ, _≤_}
 use Rattle.std.specs.declared.option.Option.{Option}
 use Rattle.std.specs.declared.option.Option.the-variants.{Some, None}
 use Rattle.std.specs.declared.result.Result.the-variants.{Ok, Err}
 use Rattle.bytes.specs.Classes.{Bytes}
 use Rattle.layout.specs.declared.pair.Pair.{Pair}
-use Rattle.file.specs.declared.opening.Opening.{Opening}
-use Rattle.file.specs.Openings.{opening}
 use Rattle.file.specs.Records.{transactionsOf}
 use Rattle.book.specs.Meaning.{BookMeaning}
 use Rattle.book.specs.Told.{EntryTold}

@@ -14,7 +14,7 @@ use Rattle.transaction.specs.declared.verdict.Verdict.the-variants.{Accepted, R
 use Rattle.transaction.specs.Checks.{Holds}
 use Rattle.promises.specs.Judging.{judge}
 use Rattle.promises.specs.Packets.{PacketRead, readPacket, packetLength, acceptedCount}
-use Rattle.promises.specs.Calls.{Handed, Answer, checked, posted, checkAnswer, postAnswer}
+use Rattle.promises.specs.Calls.{Handed, checked, posted, checkAnswer, postAnswer}
 
 -- a refusal has a code above 0, and its numbers fit their fields
 abbrev pub VerdictFits : Verdict → Type 0

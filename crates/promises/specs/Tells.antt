@@ -8,7 +8,6 @@ use Rattle.std.specs.declared.option.Option.{Option}
 use Rattle.std.specs.declared.option.Option.the-variants.{Some, None}
 use Rattle.std.specs.shelf.Lists.{Has, kept-by}
 use Rattle.layout.specs.declared.pair.Pair.{Pair}
-use Rattle.book.specs.declared.mark.Counts.{Counts}
 use Rattle.book.specs.Meaning.{BookMeaning, samePair, emptyBook}
 use Rattle.book.specs.Told.{EntryTold}
 use Rattle.transaction.specs.declared.header.Transaction.{Transaction}
