@@ -15,11 +15,56 @@ pub fn first_failing_check_counts()
     ensures { λ _. ⌜ FirstCounts ⌝ }
 {}
 
+// A transaction has no pairs exactly if its verdict is 30, or 21, 22, 32 or 51 in its header.
+pub fn pairs_by_verdict()
+    ensures { λ _. ⌜ PairsByVerdict ⌝ }
+{}
+
+// No action of the book is refused for an accepted transaction, so that the actions do what is defined.
+pub fn actions_enter_accepted()
+    ensures { λ _. ⌜ ActionsDo ⌝ }
+{}
+
+// Nor is the mark refused that a post sets at its end.
+pub fn mark_is_set()
+    ensures { λ _. ⌜ MarkIsSet ⌝ }
+{}
+
+// A refusal's code is above 0, and the numbers of a verdict fit their fields in a packet.
+pub fn verdicts_fit_packets()
+    ensures { λ _. ⌜ VerdictsFit ⌝ }
+{}
+
+// A packet has room, and the file's numbers and its verdicts can be read back from it.
+pub fn packets_read_back()
+    ensures { λ _. ⌜ ReadsBack ⌝ }
+{}
+
 // For every pair show answers an entry exactly if an accepted transaction has the pair as its own, and then only one has;
 // the entry has its Set ID, day and total; the open amount and the accepted adjustments add up to the total. Count answers
 // how many were accepted and rejected.
 pub fn show_tells_what_was_accepted()
     ensures { λ _. ⌜ ShowTells ⌝ }
+{}
+
+// The accepted adjustments of a transaction never pass its total.
+pub fn adjustments_never_pass_total()
+    ensures { λ _. ⌜ NeverPassTotal ⌝ }
+{}
+
+// An entry stays, and its open amount never grows.
+pub fn open_amount_never_grows()
+    ensures { λ _. ⌜ NeverGrows ⌝ }
+{}
+
+// A file that was posted is refused with 6 from then on, and changes nothing.
+pub fn file_is_posted_once()
+    ensures { λ _. ⌜ PostedOnce ⌝ }
+{}
+
+// Without its rejected transactions a file leaves the same entries and lines.
+pub fn rejected_leave_nothing()
+    ensures { λ _. ⌜ RejectedLeaveNothing ⌝ }
 {}
 
 // Two files with different File ID Numbers and no pair in common, with places enough for both: each gets the same packet or
@@ -38,51 +83,6 @@ pub fn replaced_one_leaves_others_posted()
     ensures { λ _. ⌜ PostLeavesOthers ⌝ }
 {}
 
-// The accepted adjustments of a transaction never pass its total.
-pub fn adjustments_never_pass_total()
-    ensures { λ _. ⌜ NeverPassTotal ⌝ }
-{}
-
-// A file that was posted is refused with 6 from then on, and changes nothing.
-pub fn file_is_posted_once()
-    ensures { λ _. ⌜ PostedOnce ⌝ }
-{}
-
-// An entry stays, and its open amount never grows.
-pub fn open_amount_never_grows()
-    ensures { λ _. ⌜ NeverGrows ⌝ }
-{}
-
-// Without its rejected transactions a file leaves the same entries and lines.
-pub fn rejected_leave_nothing()
-    ensures { λ _. ⌜ RejectedLeaveNothing ⌝ }
-{}
-
-// A refusal's code is above 0, and the numbers of a verdict fit their fields in a packet.
-pub fn verdicts_fit_packets()
-    ensures { λ _. ⌜ VerdictsFit ⌝ }
-{}
-
-// A packet has room, and the file's numbers and its verdicts can be read back from it.
-pub fn packets_read_back()
-    ensures { λ _. ⌜ ReadsBack ⌝ }
-{}
-
-// Worked facts: days, open amounts, lines, the smallest packet, and a chain of transactions.
-pub fn worked_facts()
-    ensures { λ _. ⌜ Facts ⌝ }
-{}
-
-// No action of the book is refused for an accepted transaction, so that the actions do what is defined.
-pub fn actions_enter_accepted()
-    ensures { λ _. ⌜ ActionsDo ⌝ }
-{}
-
-// Nor is the mark refused that a post sets at its end.
-pub fn mark_is_set()
-    ensures { λ _. ⌜ MarkIsSet ⌝ }
-{}
-
 // Under post the transactions before a replaced one keep their verdicts in any case.
 pub fn replaced_one_leaves_earlier_posted()
     ensures { λ _. ⌜ PostLeavesEarlier ⌝ }
@@ -98,7 +98,7 @@ pub fn promises_of_a_run()
     ensures { λ _. ⌜ Promises ⌝ }
 {}
 
-// A transaction has no pairs exactly if its verdict is 30, or 21, 22, 32 or 51 in its header.
-pub fn pairs_by_verdict()
-    ensures { λ _. ⌜ PairsByVerdict ⌝ }
+// Worked facts: days, open amounts, lines, the smallest packet, and a chain of transactions.
+pub fn worked_facts()
+    ensures { λ _. ⌜ Facts ⌝ }
 {}
