@@ -1,18 +1,24 @@
 -- The lines of a transaction, by their number alone.
 use mathlib.Core.Path.{_≡_, refl, sym, ap, _∙_}
 use mathlib.Core.Bool.{Bool, true, false, _&&_, not}
-use mathlib.Core.List.{List, [], _∷_}
+use mathlib.Core.List.{List, [], _∷_, _++_}
 use Prim.Native.Nat.{ℕ, suc, _+_, _-_, _<_, _≤_}
 use native.Mathlib.Numerals.{add-one}
 use native.Mathlib.Omega.{arith}
 use lib.ListN.{length}
 use Rattle.std.specs.Options.{isSome}
 use Rattle.std.specs.declared.option.Option.{Option}
+use Rattle.std.specs.declared.option.Option.the-variants.{Some}
 use Rattle.layout.specs.declared.set_id.SetId.{SetId}
 use Rattle.layout.specs.declared.set_id.SetId.the-variants.{Payment, Collection, ReceiverAdjustment, SenderAdjustment, ZeroDollar, PostSgl}
-use Rattle.book.specs.Meaning.{LineHeld}
+use Rattle.layout.specs.declared.pair.Pair.{Pair}
+use Rattle.book.specs.Meaning.{BookMeaning, LineHeld, entryAt, lineAt}
 use Rattle.transaction.specs.Details.{DetailRead}
-use Rattle.promises.specs.Own.{linesUnder, noLines}
+use Rattle.transaction.specs.declared.header.Transaction.{Transaction}
+use Rattle.transaction.specs.Headers.{setIdOf}
+use Rattle.transaction.specs.Verdicts.{check, verdict}
+use Rattle.promises.specs.Held.{checksAt}
+use Rattle.promises.specs.Own.{ownColumn, linesUnder, linesOf, noLines, ownPairChecks, hasPlaces, placeChecks}
 use Rattle.settle.specs.Lines.{lineCount, noneOf}
 
 -- n numbers of `count` have been looked at
@@ -50,3 +56,15 @@ line-count ReceiverAdjustment ds = refl
 line-count SenderAdjustment ds = refl
 line-count ZeroDollar ds = refl
 line-count PostSgl ds = refl
+
+-- the own pair and the places, by the number of lines
+pub own-checks : (b : BookMeaning) (t : Transaction) (ds : List DetailRead) (o : Option Pair) (p : Pair) (set : SetId) (n details : ℕ) → Some p ≡ o → set ≡ setIdOf t → details ≡ length ds → n ≡ lineCount set details →
+    verdict (check (not (isSome (entryAt b p)) && noneOf 1 n (lineAt b p)) 66 0 (ownColumn set) ∷ check (hasPlaces b n) 67 0 1 ∷ []) ≡ verdict (checksAt b o (ownPairChecks t ds) ++ placeChecks b t ds o)
+own-checks b t ds o p set n details e s d k =
+    ap (λ x. verdict (check (not (isSome (entryAt b p)) && noneOf 1 n (lineAt b p)) 66 0 (ownColumn x) ∷ check (hasPlaces b n) 67 0 1 ∷ [])) s
+    ∙ ap (λ m. verdict (check (not (isSome (entryAt b p)) && noneOf 1 m (lineAt b p)) 66 0 (ownColumn (setIdOf t)) ∷ check (hasPlaces b m) 67 0 1 ∷ [])) count
+    ∙ ap (λ v. verdict (check (not (isSome (entryAt b p)) && v) 66 0 (ownColumn (setIdOf t)) ∷ check (hasPlaces b (length (linesOf t ds))) 67 0 1 ∷ [])) (sym (no-lines (lineAt b p) 1 (linesOf t ds)))
+    ∙ ap (λ x. verdict (checksAt b x (ownPairChecks t ds) ++ placeChecks b t ds x)) e
+  where
+    count : n ≡ length (linesOf t ds)
+    count = k ∙ ap (λ m. lineCount set m) d ∙ ap (λ x. lineCount x (length ds)) s ∙ sym (line-count (setIdOf t) ds)

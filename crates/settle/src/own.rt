@@ -64,12 +64,7 @@ fn lines_free<B: Book>(book: &B, pair: &Pair, count: usize) -> bool
     true
 }
 
-pub(crate) fn check_pair<B: Book>(
-    book: &B,
-    pair: &Pair,
-    set: SetId,
-    lines: usize,
-) -> Result<(), BookCheck>
+fn check_pair<B: Book>(book: &B, pair: &Pair, set: SetId, lines: usize) -> Result<(), BookCheck>
     requires { ⌜ lines ≤ 1000 ⌝ }
     ensures { λ r. ⌜ outcome r ≡ verdict (check (not (isSome (entryAt (B·Book .meaning (now (book .entry))) (now (pair .entry)))) && noneOf 1 lines (lineAt (B·Book .meaning (now (book .entry))) (now (pair .entry)))) 66 0 (ownColumn set) ∷ []) ⌝ }
 {
@@ -81,7 +76,7 @@ pub(crate) fn check_pair<B: Book>(
     Ok(())
 }
 
-pub(crate) fn check_places<B: Book>(book: &B, lines: usize) -> Result<(), BookCheck>
+fn check_places<B: Book>(book: &B, lines: usize) -> Result<(), BookCheck>
     ensures { λ r. ⌜ outcome r ≡ verdict (check (hasPlaces (B·Book .meaning (now (book .entry))) lines) 67 0 1 ∷ []) ⌝ }
 {
     let free = book.free();
@@ -89,4 +84,18 @@ pub(crate) fn check_places<B: Book>(book: &B, lines: usize) -> Result<(), BookCh
         return Err(BookCheck::NoPlaces);
     }
     Ok(())
+}
+
+// The pair, then the places.
+pub(crate) fn check_entering<B: Book>(
+    book: &B,
+    pair: &Pair,
+    set: SetId,
+    lines: usize,
+) -> Result<(), BookCheck>
+    requires { ⌜ lines ≤ 1000 ⌝ }
+    ensures { λ r. ⌜ outcome r ≡ verdict (check (not (isSome (entryAt (B·Book .meaning (now (book .entry))) (now (pair .entry)))) && noneOf 1 lines (lineAt (B·Book .meaning (now (book .entry))) (now (pair .entry)))) 66 0 (ownColumn set) ∷ check (hasPlaces (B·Book .meaning (now (book .entry))) lines) 67 0 1 ∷ []) ⌝ }
+{
+    check_pair(book, pair, set, lines)?;
+    check_places(book, lines)
 }
