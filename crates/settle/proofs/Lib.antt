@@ -1,0 +1,4 @@
+pub mod Lines
+pub mod Answered
+pub mod Chains
+pub mod Judging

@@ -1,0 +1,4 @@
+pub mod Faults
+pub mod Originals
+pub mod Lines
+pub mod Relied
