@@ -11,6 +11,7 @@ use transaction::sound::read;
 use transaction::verdict::Verdict;
 
 mod against;
+mod enter;
 pub mod fault;
 mod original;
 mod own;
