@@ -119,6 +119,14 @@ module _ (holds : Holds) (rs : List Bytes) (t : Transaction) (details : ℕ) (bo
         ∙ ap (λ x. then x (verdict (bookChecksAny b day (readingIn (firstOf rs)) (detailsOf (othersOf rs))))) ok
         ∙ sym (verdict-append (ownChecks holds rs) (bookChecksAny b day (readingIn (firstOf rs)) (detailsOf (othersOf rs))))
 
+    -- the book after it: v is its verdict, and c the book
+    pub entered-sound : (v : Verdict) (c : BookMeaning) → v ≡ verdict (bookChecks b day t (detailsOf (records body))) → c ≡ applyIf v day (Some t) (detailsOf (records body)) b → c ≡ entered holds b day rs
+    entered-sound v c h k =
+        k
+        ∙ ap (λ x. applyIf x day (Some t) (detailsOf (records body)) b) (judged-sound v h)
+        ∙ ap (λ o. applyIf (judge holds b day rs) day (Some t) (detailsOf o) b) (s .others)
+        ∙ ap (λ o. applyIf (judge holds b day rs) day o (detailsOf (othersOf rs)) b) (sym (s .reading))
+
 cause-refused : (n : ℕ) (f : RecordCause) (v : Verdict) → then (causeVerdict n f) v ≡ causeVerdict n f
 cause-refused n SetIdUnknown v = refl
 cause-refused n Letter v = refl
@@ -138,3 +146,22 @@ judged-fault holds rs b day f h =
     sym (fault-refused f _)
     ∙ ap (λ x. then x (verdict (bookChecksAny b day (readingIn (firstOf rs)) (detailsOf (othersOf rs))))) h
     ∙ sym (verdict-append (ownChecks holds rs) (bookChecksAny b day (readingIn (firstOf rs)) (detailsOf (othersOf rs))))
+
+cause-leaves : (n : ℕ) (f : RecordCause) (day : ℕ) (o : Option Transaction) (ds : List DetailRead) (b : BookMeaning) → b ≡ applyIf (causeVerdict n f) day o ds b
+cause-leaves n SetIdUnknown day o ds b = refl
+cause-leaves n Letter day o ds b = refl
+cause-leaves n Length day o ds b = refl
+cause-leaves n (Field f) day o ds b = refl
+cause-leaves n (Companion column) day o ds b = refl
+cause-leaves n Product day o ds b = refl
+
+fault-leaves : (f : TransactionFault) (day : ℕ) (o : Option Transaction) (ds : List DetailRead) (b : BookMeaning) → b ≡ applyIf (faultVerdict f) day o ds b
+fault-leaves (Record f) day o ds b = cause-leaves (f .number) (f .cause) day o ds b
+fault-leaves DetailCount day o ds b = refl
+fault-leaves (EntrySet n) day o ds b = refl
+fault-leaves Total day o ds b = refl
+
+pub entered-fault : (holds : Holds) (rs : List Bytes) (b : BookMeaning) (day : ℕ) (f : TransactionFault) → faultVerdict f ≡ ownVerdict holds rs → b ≡ entered holds b day rs
+entered-fault holds rs b day f h =
+    fault-leaves f day (readingIn (firstOf rs)) (detailsOf (othersOf rs)) b
+    ∙ ap (λ v. applyIf v day (readingIn (firstOf rs)) (detailsOf (othersOf rs)) b) (judged-fault holds rs b day f h)
