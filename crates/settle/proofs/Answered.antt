@@ -1,14 +1,13 @@
 -- What a book answers is judged as what it holds.
 use mathlib.Core.Path.{_≡_, refl, sym, ap, _∙_}
 use mathlib.Core.List.{List, [], _∷_, _++_}
-use Prim.Native.Nat.{ℕ, suc, zero, _+_, _*_, _^_, _<_, _≤_}
+use Prim.Native.Nat.{ℕ, suc, _*_, _^_, _<_, _≤_}
 use native.Mathlib.Nat.{pow-suc, pow-le-pow-right, mul-le-mul-right}
 use native.Mathlib.Omega.{arith}
 use lib.ListN.{length, take, drop, length-take}
 use Rattle.bytes.specs.Classes.{Bytes, isDigit}
-use Rattle.bytes.specs.Parts.{columns}
 use Rattle.bytes.specs.Values.{valueOf, digitOf}
-use mathlib.Core.Bool.{Bool, true, false, cond, _&&_}
+use mathlib.Core.Bool.{Bool, true, false}
 use lib.Dec.{leb}
 use Rattle.std.specs.Options.{isSome, mapped}
 use Rattle.std.specs.declared.option.Option.{Option}
@@ -30,7 +29,7 @@ use Rattle.transaction.specs.Verdicts.{Check, check, verdict}
 use Rattle.promises.specs.Held.{Held}
 use Rattle.promises.specs.Against.{itemColumn, originalColumn, serves, lineChecks, lineChecksAny, detailChecks, entryChecks, originalChecks}
 use Rattle.promises.proofs.Passing.{some-not}
-use Rattle.settle.specs.declared.fault.BookCheck.{BookCheck}
+use Rattle.settle.specs.declared.fault.SettleFault.{SettleFault}
 use Rattle.settle.specs.Faults.{faultVerdict}
 use Rattle.settle.specs.Originals.{heldAs, lineAs, answered, servingCheck, ageCheck, openCheck}
 use Rattle.settle.proofs.Chains.{stops, goes-on}
@@ -91,7 +90,7 @@ module _ (f : DetailRead → List Check) (d : DetailRead) (all rest : List Detai
   pub turn-on : Accepted ≡ verdict (f d) → verdict (joined f rest) ≡ v
   turn-on h = goes-on (f d) (joined f rest) _ h refl ∙ ap (λ ds. verdict (joined f ds)) (sym is) ∙ inv
 
-  pub turn-stop : (e : BookCheck) → faultVerdict e ≡ verdict (f d) → faultVerdict e ≡ v
+  pub turn-stop : (e : SettleFault) → faultVerdict e ≡ verdict (f d) → faultVerdict e ≡ v
   turn-stop e h = stops (f d) (joined f rest) e h ∙ ap (λ ds. verdict (joined f ds)) (sym is) ∙ inv
 
 -- the original in the order of its checks; o is what is answered of it
@@ -117,7 +116,7 @@ module _ (day : ℕ) (t : Transaction) (ds : List DetailRead) (h : Held) (o : Op
         (goes-on (ageCheck day set (answered o)) (joined (detailChecks set h) ds ++ openCheck total set (answered o)) v age k)
         ∙ original-is
 
-    pub lines-stop : (f : BookCheck) → faultVerdict f ≡ verdict (joined (detailChecks set h) ds) → faultVerdict f ≡ verdict (originalChecks day t ds h)
+    pub lines-stop : (f : SettleFault) → faultVerdict f ≡ verdict (joined (detailChecks set h) ds) → faultVerdict f ≡ verdict (originalChecks day t ds h)
     lines-stop f k = behind (faultVerdict f) (stops (joined (detailChecks set h) ds) (openCheck total set (answered o)) f k)
 
     pub lines-pass : (v : Verdict) → Accepted ≡ verdict (joined (detailChecks set h) ds) → v ≡ verdict (openCheck total set (answered o)) → v ≡ verdict (originalChecks day t ds h)

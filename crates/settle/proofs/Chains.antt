@@ -2,14 +2,14 @@
 use mathlib.Core.Path.{_≡_, refl, sym, ap, _∙_}
 use mathlib.Core.List.{List, _++_}
 use Rattle.transaction.specs.declared.verdict.Verdict.{Verdict}
-use Rattle.transaction.specs.declared.verdict.Verdict.the-variants.{Accepted, Refused}
+use Rattle.transaction.specs.declared.verdict.Verdict.the-variants.{Accepted}
 use Rattle.transaction.specs.Verdicts.{Check, verdict}
 use Rattle.promises.proofs.Judged.{then, verdict-append}
-use Rattle.settle.specs.declared.fault.BookCheck.{BookCheck}
-use Rattle.settle.specs.declared.fault.BookCheck.the-variants.{OriginalAbsent, TooLate, NoLine, SymbolDiffers, AmountDiffers, AboveOpen, PairHeld, NoPlaces}
+use Rattle.settle.specs.declared.fault.SettleFault.{SettleFault}
+use Rattle.settle.specs.declared.fault.SettleFault.the-variants.{OriginalAbsent, TooLate, NoLine, SymbolDiffers, AmountDiffers, AboveOpen, PairHeld, NoPlaces}
 use Rattle.settle.specs.Faults.{faultVerdict}
 
-refused : (f : BookCheck) (v : Verdict) → then (faultVerdict f) v ≡ faultVerdict f
+refused : (f : SettleFault) (v : Verdict) → then (faultVerdict f) v ≡ faultVerdict f
 refused (OriginalAbsent column) v = refl
 refused (TooLate column) v = refl
 refused (NoLine number column) v = refl
@@ -20,7 +20,7 @@ refused (PairHeld column) v = refl
 refused NoPlaces v = refl
 
 module _ (xs ys : List Check) where
-  pub stops : (f : BookCheck) → faultVerdict f ≡ verdict xs → faultVerdict f ≡ verdict (xs ++ ys)
+  pub stops : (f : SettleFault) → faultVerdict f ≡ verdict xs → faultVerdict f ≡ verdict (xs ++ ys)
   stops f h = sym (refused f (verdict ys)) ∙ ap (λ v. then v (verdict ys)) h ∙ sym (verdict-append xs ys)
 
   pub goes-on : (v : Verdict) → Accepted ≡ verdict xs → v ≡ verdict ys → v ≡ verdict (xs ++ ys)

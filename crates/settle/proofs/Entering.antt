@@ -2,37 +2,36 @@
 use mathlib.Core.Path.{_≡_, refl, sym, ap, subst, _∙_}
 use mathlib.Core.Bool.{Bool, true, false, cond, _&&_, not}
 use mathlib.Core.List.{List, [], _∷_}
-use Prim.Native.Nat.{ℕ, suc, _+_, _-_, _<_, _≤_}
+use Prim.Native.Nat.{ℕ, suc, _<_, _≤_}
 use native.Mathlib.Omega.{arith}
-use lib.Dec.{eqb, leb}
+use lib.Dec.{eqb}
 use lib.ListN.{length}
 use Rattle.std.specs.Options.{isSome}
 use Rattle.std.specs.declared.option.Option.{Option}
 use Rattle.std.specs.declared.option.Option.the-variants.{Some, None}
 use Rattle.std.specs.declared.result.Result.the-variants.{Ok, Err}
-use Rattle.std.proofs.shelf.Tests.{and-parts, and-right, eqb-true, eq-eqb, ne-eqb, leb-true, le-leb, true≢false}
+use Rattle.std.proofs.shelf.Tests.{and-parts, and-right, eqb-true, eq-eqb, ne-eqb, le-leb, true≢false}
 use Rattle.bytes.specs.Classes.{Bytes}
 use Rattle.bytes.proofs.Columns.{columns-length}
 use Rattle.layout.specs.declared.pair.Pair.{Pair}
 use Rattle.layout.specs.declared.set_id.SetId.{SetId}
 use Rattle.layout.specs.declared.set_id.SetId.the-variants.{Payment, Collection, ReceiverAdjustment, SenderAdjustment, ZeroDollar, PostSgl}
-use Rattle.layout.specs.Layouts.{detailOf, widthOf}
 use Rattle.file.specs.Records.{records}
 use Rattle.ordered.specs.Order.{every}
-use Rattle.book.specs.declared.fault.BookFault.the-variants.{Held, Full, AboveOpen}
-use Rattle.book.specs.Actions.{enter, enterLine, entering, enteringLine, admits, takeOpen, taking, takeAnswerAt, unlessRefused}
+use Rattle.book.specs.declared.fault.BookFault.the-variants.{Full, AboveOpen}
+use Rattle.book.specs.Actions.{enter, enterLine, entering, enteringLine, admits, takeOpen, takeAnswerAt, unlessRefused}
 use Rattle.book.specs.Lists.{find, place}
-use Rattle.book.specs.Meaning.{BookMeaning, EntryHeld, LineHeld, samePair, underLine, entryAt, lineAt, lineFirst, lineUnder, fresh, freeLines, freeEntries}
+use Rattle.book.specs.Meaning.{BookMeaning, EntryHeld, LineHeld, samePair, entryAt, lineAt, lineFirst, fresh, freeLines, freeEntries}
 use Rattle.transaction.specs.declared.header.Transaction.{Transaction}
 use Rattle.transaction.specs.declared.verdict.Verdict.the-variants.{Accepted}
 use Rattle.transaction.specs.Details.{DetailRead, detailsOf, senderIn, receiverIn}
 use Rattle.transaction.specs.Headers.{setIdOf, totalOf, ownPair}
 use Rattle.transaction.specs.Verdicts.{verdict}
-use Rattle.promises.specs.Entering.{entryOf, lineOf, enterLines, enterOwn, takeAt, takenFrom, apply}
+use Rattle.promises.specs.Entering.{entryOf, enterLines, enterOwn, takeAt, takenFrom}
 use Rattle.promises.specs.Judging.{bookChecks}
 use Rattle.promises.specs.Own.{linesUnder, linesOf, noLines}
 use Rattle.promises.proofs.Effect.{own-is, putOwn, entry-placed, line-placed}
-use Rattle.promises.proofs.Passing.{Open, Vacant, own-vacant, taken-open, some-not}
+use Rattle.promises.proofs.Passing.{own-vacant, taken-open, some-not}
 use Rattle.promises.proofs.Tables.{samePair-is, length-place}
 use Rattle.settle.specs.Entering.{hasSymbols, Ready, takingAt}
 use Rattle.settle.specs.Relied.{isWide, Relied}

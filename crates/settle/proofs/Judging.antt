@@ -27,16 +27,16 @@ use Rattle.transaction.specs.declared.fault.TransactionFault.{TransactionFault}
 use Rattle.transaction.specs.declared.fault.TransactionFault.the-variants.{Record, DetailCount, EntrySet, Total}
 use Rattle.transaction.specs.declared.header.Transaction.{Transaction}
 use Rattle.transaction.specs.declared.verdict.Verdict.{Verdict}
-use Rattle.transaction.specs.declared.verdict.Verdict.the-variants.{Accepted, Refused}
+use Rattle.transaction.specs.declared.verdict.Verdict.the-variants.{Accepted}
 use Rattle.transaction.specs.Checks.{Holds, ownChecks, ownVerdict, checksOfSet, checksUnder, checksUnderAny, layoutAt, recordChecks, recordsChecks, mostDetails, detailCount, entrySetCheck, totalPasses, fieldChecks, companionCheck, productPasses}
 use Rattle.transaction.specs.Details.{DetailRead, readAs, detailsFrom, detailsOf, entrySet, untilDetail}
 use Rattle.transaction.specs.Headers.{readingOf, setIdOf}
 use Rattle.transaction.specs.Layers.{causeVerdict, faultVerdict}
 use Rattle.transaction.specs.Sounds.{readingUnder, readingIn, SoundOf}
 use Rattle.transaction.specs.Verdicts.{Check, check, verdict}
-use Rattle.promises.specs.Entering.{applyIf, apply, entered}
+use Rattle.promises.specs.Entering.{applyIf, entered}
 use Rattle.promises.specs.Judging.{bookChecks, bookChecksAny, judge}
-use Rattle.promises.proofs.Judged.{then, verdict-append, refused-not, accepted-left, accepted-right, accepted-first, accepted-rest}
+use Rattle.promises.proofs.Judged.{then, verdict-append, accepted-left, accepted-right, accepted-first, accepted-rest}
 use Rattle.promises.proofs.Passing.{some-not}
 use Rattle.settle.specs.Relied.{isWide, Relied}
 

@@ -11,7 +11,7 @@ ghost use Rattle.transaction.specs.Headers.{ownPair, originalPair};
 ghost use Rattle.transaction.specs.Verdicts.{verdict};
 ghost use Rattle.settle.specs.Faults.{outcome};
 ghost use Rattle.settle.specs.Relied.{Relied};
-use crate::fault::BookCheck;
+use crate::fault::SettleFault;
 use crate::original::check_original;
 use crate::own::check_entering;
 use crate::own::line_count;
@@ -19,7 +19,7 @@ use book::Book;
 use transaction::sound::Sound;
 
 // What it adjusts or posts to, if anything.
-fn check_any_original<B: Book>(book: &B, day: u32, sound: &Sound<'_>) -> Result<(), BookCheck>
+fn check_any_original<B: Book>(book: &B, day: u32, sound: &Sound<'_>) -> Result<(), SettleFault>
     ensures { λ r. ⌜ outcome r ≡ verdict (checksAt (B·Book .meaning (now (book .entry))) (originalPair (now (sound .entry) .transaction)) (originalChecks day (now (sound .entry) .transaction) (detailsOf (records (now (now (sound .entry) .body)))))) ⌝ }
 {
     match sound.transaction.original() {
@@ -29,7 +29,7 @@ fn check_any_original<B: Book>(book: &B, day: u32, sound: &Sound<'_>) -> Result<
 }
 
 // What it is entered under, if anything.
-fn check_own<B: Book>(book: &B, sound: &Sound<'_>) -> Result<(), BookCheck>
+fn check_own<B: Book>(book: &B, sound: &Sound<'_>) -> Result<(), SettleFault>
     requires { ⌜ Relied (now sound .transaction) (now sound .details) (now (now sound .body)) ⌝ }
     ensures { λ r. ⌜ outcome r ≡ verdict (checksAt (B·Book .meaning (now (book .entry))) (ownPair (now (sound .entry) .transaction)) (ownPairChecks (now (sound .entry) .transaction) (detailsOf (records (now (now (sound .entry) .body))))) ++ placeChecks (B·Book .meaning (now (book .entry))) (now (sound .entry) .transaction) (detailsOf (records (now (now (sound .entry) .body)))) (ownPair (now (sound .entry) .transaction))) ⌝ }
 {
@@ -40,7 +40,11 @@ fn check_own<B: Book>(book: &B, sound: &Sound<'_>) -> Result<(), BookCheck>
     }
 }
 
-pub(crate) fn check_against<B: Book>(book: &B, day: u32, sound: &Sound<'_>) -> Result<(), BookCheck>
+pub(crate) fn check_against<B: Book>(
+    book: &B,
+    day: u32,
+    sound: &Sound<'_>,
+) -> Result<(), SettleFault>
     requires { ⌜ Relied (now sound .transaction) (now sound .details) (now (now sound .body)) ⌝ }
     ensures { λ r. ⌜ outcome r ≡ verdict (bookChecks (B·Book .meaning (now (book .entry))) day (now (sound .entry) .transaction) (detailsOf (records (now (now (sound .entry) .body))))) ⌝ }
 {

@@ -5,7 +5,7 @@ use transaction::verdict::Verdict;
 
 // A record goes by its number after the header.
 #[derive(Clone, Copy)]
-pub enum BookCheck {
+pub enum SettleFault {
     // Nothing is held under the pair of the original, or an adjustment's original is no payment or collection.
     OriginalAbsent { column: usize },
     // More than 90 days after the original.
@@ -24,25 +24,25 @@ pub enum BookCheck {
     NoPlaces,
 }
 
-impl BookCheck {
+impl SettleFault {
     pub fn verdict(self) -> Verdict
         ensures { λ r. ⌜ r ≡ faultVerdict self ⌝ }
     {
         match self {
-            BookCheck::OriginalAbsent { column } => Verdict::Refused(61, 0, column),
-            BookCheck::TooLate { column } => Verdict::Refused(62, 0, column),
-            BookCheck::NoLine { number, column } => Verdict::Refused(63, number, column),
-            BookCheck::SymbolDiffers { number, column } => Verdict::Refused(64, number, column),
-            BookCheck::AmountDiffers { number } => Verdict::Refused(64, number, 1),
-            BookCheck::AboveOpen => Verdict::Refused(65, 0, 10),
-            BookCheck::PairHeld { column } => Verdict::Refused(66, 0, column),
-            BookCheck::NoPlaces => Verdict::Refused(67, 0, 1),
+            SettleFault::OriginalAbsent { column } => Verdict::Refused(61, 0, column),
+            SettleFault::TooLate { column } => Verdict::Refused(62, 0, column),
+            SettleFault::NoLine { number, column } => Verdict::Refused(63, number, column),
+            SettleFault::SymbolDiffers { number, column } => Verdict::Refused(64, number, column),
+            SettleFault::AmountDiffers { number } => Verdict::Refused(64, number, 1),
+            SettleFault::AboveOpen => Verdict::Refused(65, 0, 10),
+            SettleFault::PairHeld { column } => Verdict::Refused(66, 0, column),
+            SettleFault::NoPlaces => Verdict::Refused(67, 0, 1),
         }
     }
 }
 
 // Accepted, or the verdict of the fault.
-pub fn verdict_of(checked: Result<(), BookCheck>) -> Verdict
+pub(crate) fn verdict_of(checked: Result<(), SettleFault>) -> Verdict
     ensures { λ r. ⌜ r ≡ outcome checked ⌝ }
 {
     match checked {

@@ -4,7 +4,6 @@ ghost use mathlib.Core.List.{[], _∷_};
 ghost use mathlib.Core.Path.{_≡_};
 ghost use lib.Dec.{eqb};
 ghost use Rattle.std.specs.Joined.{joined};
-ghost use Rattle.std.specs.Options.{isSome};
 ghost use Rattle.book.specs.Meaning.{adjustable};
 ghost use Rattle.file.specs.Records.{records};
 ghost use Rattle.promises.specs.Against.{adjusts, originalColumn, itemColumn, serves, agree, symbolChecks, lineChecks, detailChecks, originalChecks};
@@ -13,7 +12,7 @@ ghost use Rattle.transaction.specs.Details.{readAs, detailsOf, itemIn, senderIn
 ghost use Rattle.transaction.specs.Verdicts.{check, verdict};
 ghost use Rattle.settle.specs.Faults.{outcome};
 ghost use Rattle.settle.specs.Originals.{lineAs, answered, servingCheck, ageCheck, openCheck};
-use crate::fault::BookCheck;
+use crate::fault::SettleFault;
 use book::Book;
 use book::entry::Entry;
 use book::line::Line;
@@ -78,11 +77,11 @@ fn serves(set: SetId, original: Option<Entry>) -> bool
     }
 }
 
-fn check_serving(set: SetId, original: Option<Entry>) -> Result<(), BookCheck>
+fn check_serving(set: SetId, original: Option<Entry>) -> Result<(), SettleFault>
     ensures { λ r. ⌜ outcome r ≡ verdict (servingCheck set (answered original)) ⌝ }
 {
     if !serves(set, original) {
-        return Err(BookCheck::OriginalAbsent {
+        return Err(SettleFault::OriginalAbsent {
             column: original_column(set),
         });
     }
@@ -90,28 +89,28 @@ fn check_serving(set: SetId, original: Option<Entry>) -> Result<(), BookCheck>
 }
 
 // An adjustment may come up to 90 days after its original, and at any time before it.
-fn check_age(day: u32, set: SetId, original: Option<Entry>) -> Result<(), BookCheck>
+fn check_age(day: u32, set: SetId, original: Option<Entry>) -> Result<(), SettleFault>
     ensures { λ r. ⌜ outcome r ≡ verdict (ageCheck day set (answered original)) ⌝ }
 {
     let Some(entry) = original else {
         return Ok(());
     };
     if adjusts(set) && u64::from(day) > u64::from(entry.day) + 90 {
-        return Err(BookCheck::TooLate {
+        return Err(SettleFault::TooLate {
             column: original_column(set),
         });
     }
     Ok(())
 }
 
-fn check_open(total: u64, set: SetId, original: Option<Entry>) -> Result<(), BookCheck>
+fn check_open(total: u64, set: SetId, original: Option<Entry>) -> Result<(), SettleFault>
     ensures { λ r. ⌜ outcome r ≡ verdict (openCheck total set (answered original)) ⌝ }
 {
     let Some(entry) = original else {
         return Ok(());
     };
     if adjusts(set) && total > entry.open_amount {
-        return Err(BookCheck::AboveOpen);
+        return Err(SettleFault::AboveOpen);
     }
     Ok(())
 }
@@ -124,20 +123,20 @@ fn agree(a: &[u8], b: &[u8]) -> bool
 }
 
 // A symbol of the detail, which stands in this column, against one of the line.
-fn check_symbol(number: usize, column: usize, given: &[u8], held: &[u8]) -> Result<(), BookCheck>
+fn check_symbol(number: usize, column: usize, given: &[u8], held: &[u8]) -> Result<(), SettleFault>
     ensures { λ r. ⌜ outcome r ≡ verdict (check (agree (now (given .entry)) (now (held .entry))) 64 number column ∷ []) ⌝ }
 {
     if !agree(given, held) {
-        return Err(BookCheck::SymbolDiffers { number, column });
+        return Err(SettleFault::SymbolDiffers { number, column });
     }
     Ok(())
 }
 
-fn check_amount(number: usize, debits: u128, amount: u64) -> Result<(), BookCheck>
+fn check_amount(number: usize, debits: u128, amount: u64) -> Result<(), SettleFault>
     ensures { λ r. ⌜ outcome r ≡ verdict (check (eqb debits amount) 64 number 1 ∷ []) ⌝ }
 {
     if debits != u128::from(amount) {
-        return Err(BookCheck::AmountDiffers { number });
+        return Err(SettleFault::AmountDiffers { number });
     }
     Ok(())
 }
@@ -148,7 +147,7 @@ fn check_symbols(
     detail: &Detail<'_>,
     as_sender: &[u8],
     as_receiver: &[u8],
-) -> Result<(), BookCheck>
+) -> Result<(), SettleFault>
     ensures { λ r. ⌜ outcome r ≡ verdict (symbolChecks (now (detail .entry) .number) (senderIn set (now (now (detail .entry) .«record»))) (now (as_sender .entry)) (receiverIn set (now (now (detail .entry) .«record»))) (now (as_receiver .entry))) ⌝ }
 {
     check_symbol(detail.number, 100, detail.sender(set), as_sender)?;
@@ -156,7 +155,7 @@ fn check_symbols(
 }
 
 // A detail against the line that it names: 812 crosswise, 829 straight, 840 by the amount.
-fn check_line(set: SetId, detail: &Detail<'_>, line: &Line) -> Result<(), BookCheck>
+fn check_line(set: SetId, detail: &Detail<'_>, line: &Line) -> Result<(), SettleFault>
     ensures { λ r. ⌜ outcome r ≡ verdict (lineChecks set (readAs (now (detail .entry) .number) (now (now (detail .entry) .«record»)) (now (detail .entry) .entries)) (lineAs (now (line .entry)))) ⌝ }
 {
     match set {
@@ -180,12 +179,12 @@ fn check_detail<B: Book>(
     pair: &Pair,
     set: SetId,
     detail: &Detail<'_>,
-) -> Result<(), BookCheck>
+) -> Result<(), SettleFault>
     ensures { λ r. ⌜ outcome r ≡ verdict (detailChecks set (at (B·Book .meaning (now (book .entry))) (now (pair .entry))) (readAs (now (detail .entry) .number) (now (now (detail .entry) .«record»)) (now (detail .entry) .entries))) ⌝ }
 {
     match line_of(book, pair, item_of(set, detail)) {
         Some(line) => check_line(set, detail, &line),
-        None => Err(BookCheck::NoLine {
+        None => Err(SettleFault::NoLine {
             number: detail.number,
             column: item_column(set),
         }),
@@ -193,7 +192,7 @@ fn check_detail<B: Book>(
 }
 
 // The first fault of the details.
-fn check_lines<B: Book>(book: &B, pair: &Pair, set: SetId, body: &[u8]) -> Result<(), BookCheck>
+fn check_lines<B: Book>(book: &B, pair: &Pair, set: SetId, body: &[u8]) -> Result<(), SettleFault>
     ensures { λ r. ⌜ outcome r ≡ verdict (joined (detailChecks set (at (B·Book .meaning (now (book .entry))) (now (pair .entry)))) (detailsOf (records (now (body .entry))))) ⌝ }
 {
     for detail in Details::of(body) {
@@ -209,7 +208,7 @@ pub(crate) fn check_original<B: Book>(
     day: u32,
     transaction: &Transaction,
     body: &[u8],
-) -> Result<(), BookCheck>
+) -> Result<(), SettleFault>
     ensures { λ r. ⌜ outcome r ≡ verdict (originalChecks day (now (transaction .entry)) (detailsOf (records (now (body .entry)))) (at (B·Book .meaning (now (book .entry))) (now (pair .entry)))) ⌝ }
 {
     let set = transaction.set_id();

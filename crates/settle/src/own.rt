@@ -9,7 +9,7 @@ ghost use Rattle.promises.specs.Own.{ownColumn, hasPlaces};
 ghost use Rattle.transaction.specs.Verdicts.{check, verdict};
 ghost use Rattle.settle.specs.Faults.{outcome};
 ghost use Rattle.settle.specs.Lines.{lineCount, noneOf};
-use crate::fault::BookCheck;
+use crate::fault::SettleFault;
 use book::Book;
 use book::line_of;
 use layout::pair::Pair;
@@ -64,24 +64,24 @@ fn lines_free<B: Book>(book: &B, pair: &Pair, count: usize) -> bool
     true
 }
 
-fn check_pair<B: Book>(book: &B, pair: &Pair, set: SetId, lines: usize) -> Result<(), BookCheck>
+fn check_pair<B: Book>(book: &B, pair: &Pair, set: SetId, lines: usize) -> Result<(), SettleFault>
     requires { ⌜ lines ≤ 1000 ⌝ }
     ensures { λ r. ⌜ outcome r ≡ verdict (check (not (isSome (entryAt (B·Book .meaning (now (book .entry))) (now (pair .entry)))) && noneOf 1 lines (lineAt (B·Book .meaning (now (book .entry))) (now (pair .entry)))) 66 0 (ownColumn set) ∷ []) ⌝ }
 {
     if has_entry(book, pair) || !lines_free(book, pair, lines) {
-        return Err(BookCheck::PairHeld {
+        return Err(SettleFault::PairHeld {
             column: own_column(set),
         });
     }
     Ok(())
 }
 
-fn check_places<B: Book>(book: &B, lines: usize) -> Result<(), BookCheck>
+fn check_places<B: Book>(book: &B, lines: usize) -> Result<(), SettleFault>
     ensures { λ r. ⌜ outcome r ≡ verdict (check (hasPlaces (B·Book .meaning (now (book .entry))) lines) 67 0 1 ∷ []) ⌝ }
 {
     let free = book.free();
     if free.entries < 1 || free.lines < lines {
-        return Err(BookCheck::NoPlaces);
+        return Err(SettleFault::NoPlaces);
     }
     Ok(())
 }
@@ -92,7 +92,7 @@ pub(crate) fn check_entering<B: Book>(
     pair: &Pair,
     set: SetId,
     lines: usize,
-) -> Result<(), BookCheck>
+) -> Result<(), SettleFault>
     requires { ⌜ lines ≤ 1000 ⌝ }
     ensures { λ r. ⌜ outcome r ≡ verdict (check (not (isSome (entryAt (B·Book .meaning (now (book .entry))) (now (pair .entry)))) && noneOf 1 lines (lineAt (B·Book .meaning (now (book .entry))) (now (pair .entry)))) 66 0 (ownColumn set) ∷ check (hasPlaces (B·Book .meaning (now (book .entry))) lines) 67 0 1 ∷ []) ⌝ }
 {

@@ -1,11 +1,9 @@
-use mathlib.Core.Path.{_≡_, sym, subst, _∙_}
+use mathlib.Core.Path.{sym, subst, _∙_}
 use Rattle.file.specs.Records.{records}
 use Rattle.transaction.proofs.Passes.{first-counts}
-use Rattle.transaction.specs.declared.verdict.Verdict.{Verdict}
 use Rattle.transaction.specs.Verdicts.{Counts}
 use Rattle.promises.specs.Judging.{allChecks}
 use Rattle.settle.proofs.Judging.{relied, judged-sound, judged-fault}
-use Rattle.settle.proofs.judge.Given as given
 use Rattle.settle.proofs.judge.Needs as need
 
 pub check-against-requires : need.check-against-requires

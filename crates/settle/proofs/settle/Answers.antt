@@ -1,4 +1,4 @@
-use mathlib.Core.Path.{_≡_, sym, subst, _∙_}
+use mathlib.Core.Path.{sym, subst, _∙_}
 use Rattle.file.specs.Records.{records}
 use Rattle.transaction.proofs.Passes.{first-counts}
 use Rattle.transaction.specs.Verdicts.{Counts}

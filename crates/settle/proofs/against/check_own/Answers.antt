@@ -1,4 +1,4 @@
-use mathlib.Core.Path.{_≡_, _∙_}
+use mathlib.Core.Path.{_∙_}
 use Rattle.file.specs.Records.{records}
 use Rattle.transaction.specs.Details.{detailsOf}
 use Rattle.transaction.specs.Headers.{ownPair}

@@ -1,4 +1,4 @@
-use mathlib.Core.Path.{_≡_, refl, ap, _∙_}
+use mathlib.Core.Path.{refl, ap, _∙_}
 use Rattle.file.specs.Records.{records}
 use Rattle.promises.specs.Entering.{takenFrom}
 use Rattle.transaction.specs.Details.{detailsOf}

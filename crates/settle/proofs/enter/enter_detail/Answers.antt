@@ -1,6 +1,6 @@
-use mathlib.Core.Path.{_≡_, refl, ap, _∙_}
+use mathlib.Core.Path.{refl, ap, _∙_}
 use mathlib.Core.List.{[]}
-use Rattle.book.specs.Actions.{enterLine, enteringLine}
+use Rattle.book.specs.Actions.{enteringLine}
 use Rattle.book.specs.Meaning.{lineUnder}
 use Rattle.book.specs.Stands.{isLineNumber}
 use Rattle.promises.specs.Entering.{lineOf}

@@ -1,6 +1,6 @@
 use mathlib.Core.Path.{_≡_, refl, sym, ap, subst, _∙_}
-use mathlib.Core.List.{List, [], _∷_}
-use Prim.Native.Nat.{suc, _+_}
+use mathlib.Core.List.{[], _∷_}
+use Prim.Native.Nat.{suc}
 use native.Mathlib.Numerals.{add-one}
 use Rattle.file.specs.Records.{records}
 use Rattle.book.specs.Actions.{enterLine}
@@ -9,7 +9,6 @@ use Rattle.promises.specs.Entering.{lineOf, enterLines}
 use Rattle.transaction.specs.Details.{readAs, detailsFrom}
 use Rattle.settle.specs.Entering.{Ready}
 use Rattle.settle.proofs.Entering.{only-first, next-ready}
-use Rattle.settle.proofs.enter.enter_details.Given as given
 use Rattle.settle.proofs.enter.enter_details.Needs as need
 
 pub enter-detail-requires : need.enter-detail-requires

@@ -1,6 +1,5 @@
-use mathlib.Core.Path.{_≡_, sym, ap, _∙_}
+use mathlib.Core.Path.{ap, _∙_}
 use Rattle.std.specs.Options.{mapped}
-use Rattle.std.specs.declared.option.Option.the-variants.{Some, None}
 use Rattle.transaction.specs.declared.verdict.Verdict.the-variants.{Refused}
 use Rattle.book.specs.Meaning.{lineAt, lineTold}
 use Rattle.transaction.specs.Details.{readAs}

@@ -1,4 +1,3 @@
-use mathlib.Core.Path.{_≡_}
 use Prim.Native.Nat.{suc}
 use Rattle.std.proofs.shelf.Results.{err-from-errBy}
 use Rattle.file.specs.Records.{records}
