@@ -10,7 +10,7 @@ use Rattle.std.proofs.lemmas.Bool.{and_parts}
 use Rattle.ordered.specs.Order.{ranks, every, ascends, held, entered, altered, adds}
 use Rattle.ordered.specs.declared.refusal.Refusal.{Refusal}
 use Rattle.ordered.specs.declared.refusal.Refusal.TheVariants as table
-use Rattle.bytes.specs.Classes.{Bytes}
+use Rattle.octets.specs.Classes.{Bytes}
 use Rattle.layout.specs.declared.pair.Pair.{Pair}
 use Rattle.book.specs.declared.new_entry.NewEntry.{NewEntry}
 use Rattle.book.specs.declared.sought.Sought.{Sought}

@@ -11,8 +11,8 @@ use Rattle.std.proofs.lemmas.Bool.{and_parts, le-leb, leb-true, cond-true}
 use Rattle.ordered.specs.Order.{ranks}
 use Rattle.ordered.proofs.Ascending.{bytewise}
 use Rattle.ordered.proofs.Arrive.{eq_same, same_eq}
-use Rattle.bytes.specs.Classes.{Bytes, is_digit}
-use Rattle.bytes.specs.Values.{value_of, digit_of}
+use Rattle.octets.specs.Classes.{Bytes, is_digit}
+use Rattle.octets.specs.Values.{value_of, digit_of}
 use Rattle.layout.specs.declared.pair.Pair.{Pair}
 use Rattle.book.specs.Lists.{before}
 use Rattle.book.specs.Meaning.{same_pair, before_pair}

@@ -5,7 +5,7 @@ use Rattle.std.specs.Ordering.{is_lt, is_eq}
 use Rattle.std.proofs.lemmas.Slice.Eq.{bytes_eq-Decides}
 use Rattle.std.proofs.lemmas.Bool.{and_parts}
 use Rattle.ordered.specs.Order.{ranks}
-use Rattle.bytes.specs.Classes.{Bytes}
+use Rattle.octets.specs.Classes.{Bytes}
 use Rattle.layout.specs.declared.pair.Pair.{Pair}
 use Rattle.book.specs.declared.entry_row.EntryRow.{EntryRow}
 use Rattle.book.specs.declared.line_row.LineRow.{LineRow}

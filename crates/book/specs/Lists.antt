@@ -1,7 +1,7 @@
 -- Lists kept in an order: the first that passes a test, one put in its place, the first that passes changed.
 -- Assumes nothing.
 use Rattle.std.specs.Prelude.{Bool, true, false, cond, ◌&&◌, ◌||◌, List, [], ◌∷◌, Some, None, Option, ◌==◌, nat_lt}
-use Rattle.bytes.specs.Classes.{Bytes}
+use Rattle.octets.specs.Classes.{Bytes}
 
 -- strictly before, byte by byte
 abbrev pub before : Bytes → Bytes → Bool

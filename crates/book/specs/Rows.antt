@@ -5,8 +5,8 @@
 -- Assumes nothing.
 use Rattle.std.specs.Prelude.{◌≡◌, ℕ, zero, suc, ◌+◌, ◌-◌, ◌/◌, ◌%◌, ◌<◌, Bool, true, ◌&&◌, List, [], ◌∷◌, ◌++◌, map, length, take, drop, replicate, Some, None, Option, slice_index_or}
 use Rattle.std.specs.Str.{bytes_eq}
-use Rattle.bytes.specs.Classes.{Bytes}
-use Rattle.bytes.specs.Values.{value_of}
+use Rattle.octets.specs.Classes.{Bytes}
+use Rattle.octets.specs.Values.{value_of}
 use Rattle.layout.specs.declared.set_id.SetId.TheVariants.{Payment}
 use Rattle.layout.specs.declared.pair.Pair.{Pair}
 use Rattle.book.specs.declared.entry_row.EntryRow.{EntryRow}

@@ -1,6 +1,6 @@
 -- One field judged.
 use Rattle.std.specs.Prelude.{Bool, cond, not, ◌&&◌, Ok, Err, Result}
-use Rattle.bytes.specs.Classes.{Bytes, blank}
+use Rattle.octets.specs.Classes.{Bytes, blank}
 use Rattle.layout.specs.declared.field.Field.{Field}
 use Rattle.layout.specs.declared.field.Lookup.{Lookup}
 use Rattle.layout.specs.Fields.{start_of, is_required, kind_of, register_of}

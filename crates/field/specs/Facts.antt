@@ -1,6 +1,6 @@
 -- Worked facts of fields and registers.
 use Rattle.std.specs.Prelude.{◌≡◌, ℕ, Bool, true, false, cond, List, [], ◌∷◌, length, Ok, Err, codes, Result, ◌==◌, ◌≢◌, slice_index}
-use Rattle.bytes.specs.Classes.{Bytes}
+use Rattle.octets.specs.Classes.{Bytes}
 use Rattle.layout.specs.declared.Layout.{Layout}
 use Rattle.layout.specs.declared.Layout.TheVariants.{PaymentDetail, SglEntry}
 use Rattle.layout.specs.declared.field.Field.{Field}

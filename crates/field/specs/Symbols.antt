@@ -1,7 +1,7 @@
 -- Account symbols, by their parts.
 use Rattle.std.specs.Prelude.{ℕ, Bool, ◌&&◌, ◌||◌, length, ◌==◌, slice_index}
-use Rattle.bytes.specs.Classes.{Bytes, blank, type_n}
-use Rattle.bytes.specs.Parts.{columns}
+use Rattle.octets.specs.Classes.{Bytes, blank, type_n}
+use Rattle.octets.specs.Parts.{columns}
 
 abbrev pub digits_or_blank : Bytes → Bool
 digits_or_blank bs = type_n bs || blank bs

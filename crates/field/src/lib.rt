@@ -4,8 +4,8 @@ ghost use Rattle.field.specs.Checks.{field_check, refused};
 
 use crate::fault::{Cause, FieldFault};
 use crate::shape::{is_filler, is_shaped};
-use bytes::class::is_blank;
-use bytes::line::Line;
+use octets::class::is_blank;
+use octets::line::Line;
 use layout::field::Field;
 use register::five::Registers;
 

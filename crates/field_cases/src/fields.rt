@@ -1,7 +1,7 @@
 // Fields of a payment's records, good and refused.
 ghost use Rattle.std.specs.Prelude.{◌<◌};
 
-use bytes::line::Line;
+use octets::line::Line;
 use field::check_field;
 use layout::Layout;
 use register::bit_map::BitMap;

@@ -2,7 +2,7 @@
 use Rattle.std.proofs.Common.{◌≡◌, ℕ, zero, suc, ◌+◌, ◌-◌, ◌<◌, ◌≤◌, min, Bool, true, false, cond, ◌&&◌, eqb, List, [], ◌∷◌, length, take, drop, sym, refl, ap, ◌∙◌, ⊎_elim, not-suc-le-zero, arith}
 use Rattle.std.proofs.lemmas.List.{at_drop_all, drop_all, drop-drop, length-drop, take_rest}
 use Rattle.std.proofs.lemmas.Bool.{and_parts, cases_lt, eqb-true}
-use Rattle.bytes.specs.Classes.{Bytes}
+use Rattle.octets.specs.Classes.{Bytes}
 use Rattle.file.specs.Lengths.{line_len, header_after}
 use Rattle.file.proofs.Lines.{records_line, first_is}
 use Rattle.file.specs.Records.{records, onto, begins, is_header, until_header, transactions, first_of, others_of}

@@ -1,6 +1,6 @@
 -- What is in a file, by number.
 use Rattle.std.specs.Prelude.{List, length}
-use Rattle.bytes.specs.Classes.{Bytes}
+use Rattle.octets.specs.Classes.{Bytes}
 use Rattle.file.specs.declared.tally.Found.{Found}
 use Rattle.file.specs.declared.tally.Tally.{Tally}
 use Rattle.file.specs.Records.{records, is_header, is_detail, is_entry, many, transactions_of}

@@ -1,6 +1,6 @@
 -- Where the first record and the first transaction of a text end, in bytes.
 use Rattle.std.specs.Prelude.{ℕ, suc, Bool, cond, ◌&&◌, List, [], ◌∷◌, ◌==◌}
-use Rattle.bytes.specs.Classes.{Bytes}
+use Rattle.octets.specs.Classes.{Bytes}
 use Rattle.file.specs.Records.{begins}
 
 -- how many bytes stand before the first line feed

@@ -1,9 +1,9 @@
 -- How a file opens: a file code, or its File ID Number and the number of records that it states.
 use Rattle.std.specs.Prelude.{ℕ, ◌-◌, Bool, cond, not, ◌&&◌, [], length, Ok, Err, codes, Result, ◌==◌, nat_lt, slice_index, slice_index_or}
 use Rattle.std.specs.Str.{bytes_eq}
-use Rattle.bytes.specs.Classes.{Bytes, type_a, type_n}
-use Rattle.bytes.specs.Parts.{columns}
-use Rattle.bytes.specs.Values.{value_of}
+use Rattle.octets.specs.Classes.{Bytes, type_a, type_n}
+use Rattle.octets.specs.Parts.{columns}
+use Rattle.octets.specs.Values.{value_of}
 use Rattle.file.specs.declared.opening.Opening.{Opening}
 use Rattle.file.specs.declared.opening.OpeningFault.{OpeningFault}
 use Rattle.file.specs.declared.opening.OpeningFault.TheVariants.{TooLong, NoEnd, NoIdentifier, BadBatchHeader, NoTransaction}

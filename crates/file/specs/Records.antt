@@ -1,6 +1,6 @@
 -- The records of a text, and the transactions that they make.
 use Rattle.std.specs.Prelude.{ℕ, ◌+◌, Bool, true, false, cond, List, [], ◌∷◌, drop, ◌==◌}
-use Rattle.bytes.specs.Classes.{Bytes}
+use Rattle.octets.specs.Classes.{Bytes}
 
 -- a byte put before the first record
 abbrev pub onto : ℕ → List Bytes → List Bytes

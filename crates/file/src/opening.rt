@@ -5,9 +5,9 @@ ghost use Rattle.file.specs.Records.{records, begins, is_header};
 
 use crate::records::Records;
 use crate::transactions::begins_header;
-use bytes::class::{every, is_same, is_type_a};
-use bytes::part::columns_of;
-use bytes::value::number_at;
+use octets::class::{every, is_same, is_type_a};
+use octets::part::columns_of;
+use octets::value::number_at;
 
 // A file has at most 16 MiB.
 const LONGEST: usize = 16_777_216;
@@ -55,7 +55,7 @@ fn is_batch_header(record: &[u8]) -> bool
 {
     record.len() == 32
         && is_same(columns_of(record, 1, 5), b"BIPAC")
-        && every::<bytes::class::Digit>(columns_of(record, 6, 8))
+        && every::<octets::class::Digit>(columns_of(record, 6, 8))
         && is_type_a(columns_of(record, 14, 19))
 }
 

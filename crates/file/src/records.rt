@@ -4,7 +4,7 @@ ghost use Rattle.file.specs.Lengths.{line_len};
 ghost use Rattle.file.specs.Records.{records, first_of, others_of, begins, is_header, is_detail, is_entry};
 
 use crate::feed::first_line;
-use bytes::line::Line;
+use octets::line::Line;
 
 // A cursor over the records that are still to be read. It copies nothing.
 #[derive(Clone, Copy)]

@@ -3,7 +3,7 @@ use crate::opening::{Opening, body};
 use crate::records::Records;
 use crate::tally::{Found, Tally};
 use crate::transactions::Transactions;
-use bytes::class::is_same;
+use octets::class::is_same;
 use std::test::Fail;
 
 // Whether each of the files is refused with the code; 0 stands for a good opening.

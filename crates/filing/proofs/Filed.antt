@@ -1,7 +1,7 @@
 -- From a file's gate to what is told of it.
 use Rattle.std.proofs.Common.{◌≡◌, ℕ, suc, ◌+◌, ◌*◌, ◌≤◌, Bool, true, false, cond, leb, List, [], ◌∷◌, ◌++◌, length, Ok, Err, Result, sym, refl, ap, ◌∙◌, subst, arith, length-append}
 use Rattle.std.proofs.lemmas.Bool.{ltb-false, le-leb}
-use Rattle.bytes.specs.Classes.{Bytes}
+use Rattle.octets.specs.Classes.{Bytes}
 use Rattle.file.specs.declared.opening.Opening.{Opening}
 use Rattle.file.specs.declared.tally.Found.{Found}
 use Rattle.file.specs.Counts.{found_in}

@@ -1,6 +1,6 @@
 -- What check and post tell of a file: a number, and the packet in its buffer.
 use Rattle.std.specs.Prelude.{ℕ, cond, length, Ok, Err, Result}
-use Rattle.bytes.specs.Classes.{Bytes}
+use Rattle.octets.specs.Classes.{Bytes}
 use Rattle.packet.specs.Written.{written}
 use Rattle.promises.specs.Calls.{Answer}
 

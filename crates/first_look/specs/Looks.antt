@@ -1,6 +1,6 @@
 -- What first look answers: post's answer on a new small book.
 use Rattle.std.specs.Prelude.{ℕ, length, Ok, Err}
-use Rattle.bytes.specs.Classes.{Bytes}
+use Rattle.octets.specs.Classes.{Bytes}
 use Rattle.register.specs.Fives.{held}
 use Rattle.register.specs.Keys.{is_in, listed}
 use Rattle.register.specs.Maps.{mapped, kept}

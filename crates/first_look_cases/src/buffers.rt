@@ -1,5 +1,5 @@
 // A file of one transaction, and packet buffers that just suffice, do not, or are longer.
-use bytes::class::is_same;
+use octets::class::is_same;
 use first_look::first_look;
 
 // Its Set ID is unknown.

@@ -1,5 +1,5 @@
 // A payment's header alone. With good registers only its details are wanting: 41.
-use bytes::class::is_same;
+use octets::class::is_same;
 use first_look::first_look;
 
 const FILE: &[u8] =

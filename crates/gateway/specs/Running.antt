@@ -1,6 +1,6 @@
 -- The packet buffers that a run makes for its calls.
 use Rattle.std.specs.Prelude.{ℕ, min, length, take, Ok, Err, Result}
-use Rattle.bytes.specs.Classes.{Bytes}
+use Rattle.octets.specs.Classes.{Bytes}
 use Rattle.calls.specs.Codes.{file_code}
 use Rattle.calls.specs.declared.fault.FileFault.{FileFault}
 use Rattle.file.specs.declared.opening.Opening.{Opening}

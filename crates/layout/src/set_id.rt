@@ -2,8 +2,8 @@
 ghost use Rattle.std.specs.Prelude.{◌≡◌};
 ghost use Rattle.layout.specs.SetIds.{number_of, set_id_of, set_id_in};
 
-use bytes::class::is_same;
-use bytes::part::columns_of;
+use octets::class::is_same;
+use octets::part::columns_of;
 
 #[derive(Clone, Copy, PartialEq, Eq, Debug)]
 pub enum SetId {

@@ -1,6 +1,6 @@
 -- What the program firstlook writes: a packet, or the item of a file code.
 use Rattle.std.specs.Prelude.{ℕ, cond, take, Ok, Err, nat_le}
-use Rattle.bytes.specs.Classes.{Bytes}
+use Rattle.octets.specs.Classes.{Bytes}
 use Rattle.packet.specs.Written.{refusal_length, refusal_in}
 use Rattle.promises.specs.Calls.{Answer}
 use Rattle.promises.specs.Packets.{code_item}

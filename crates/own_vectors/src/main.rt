@@ -1,6 +1,6 @@
 // Runs an independent implementation's vectors as far as no book is needed: every file's opening, and the verdict of every transaction on its own.
 use anyhow::Context;
-use bytes::class::is_same;
+use octets::class::is_same;
 use file::opening::{Opening, body};
 use file::transactions::Transactions;
 use register::bit_map::BitMap;

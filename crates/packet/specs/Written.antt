@@ -1,6 +1,6 @@
 -- Bytes written into a buffer.
 use Rattle.std.specs.Prelude.{ℕ, ◌+◌, cond, ◌++◌, length, take, drop, nat_le}
-use Rattle.bytes.specs.Classes.{Bytes}
+use Rattle.octets.specs.Classes.{Bytes}
 use Rattle.promises.specs.Packets.{code_item}
 
 -- the bytes bs from place at on; all others stay

@@ -81,7 +81,7 @@ pub fn refusal(buffer: &mut [u8], code: u16) -> usize
 #[cfg(test)]
 mod tests {
     use super::*;
-    use bytes::class::is_same;
+    use octets::class::is_same;
 
     // A file with one transaction whose Set ID is unknown: 36 bytes, and what is behind them stays.
     #[test]

@@ -4,7 +4,7 @@ use Rattle.std.proofs.lemmas.Bool.Decides.{nat_tests}
 use Rattle.std.proofs.lemmas.Bool.{both_ways, true≢false, cases_order, lt-ltb, eq-eqb, and_parts, or_cases, le-ltb, or_left, or_right, or_from, and_right}
 use Rattle.promises.proofs.Tables.{same_is, same_self, same_pair_is, same_pair_self}
 use Rattle.std.specs.Str.{bytes_eq}
-use Rattle.bytes.specs.Classes.{Bytes}
+use Rattle.octets.specs.Classes.{Bytes}
 use Rattle.layout.specs.declared.pair.Pair.{Pair}
 use Rattle.book.specs.Lists.{before, place}
 use Rattle.book.specs.Meaning.{EntryHeld, LineHeld, MarkHeld, same_pair, before_pair, line_first, entry_first, mark_first}

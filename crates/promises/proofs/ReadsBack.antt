@@ -3,9 +3,9 @@ use Rattle.std.proofs.Common.{◌≡◌, ℕ, zero, suc, ◌+◌, ◌-◌, ◌*�
 use native.Mathlib.Nat.{pow-le-pow_right}
 use Rattle.std.proofs.lemmas.List.{take_at, drop_at, length-drop}
 use Rattle.std.proofs.lemmas.Bool.{ne_eqb, ltb-false, and_parts, leb-true}
-use Rattle.bytes.specs.Classes.{Bytes, is_digit}
-use Rattle.bytes.specs.Parts.{columns}
-use Rattle.bytes.specs.Values.{digit_of, value_of}
+use Rattle.octets.specs.Classes.{Bytes, is_digit}
+use Rattle.octets.specs.Parts.{columns}
+use Rattle.octets.specs.Values.{digit_of, value_of}
 use Rattle.file.specs.declared.opening.Opening.{Opening}
 use Rattle.file.specs.declared.opening.OpeningFault.{OpeningFault}
 use Rattle.file.specs.declared.opening.OpeningFault.TheVariants.{TooLong, NoEnd, NoIdentifier, BadBatchHeader, NoTransaction}

@@ -1,7 +1,7 @@
 -- What was accepted and rejected in a list of calls: a transaction is accepted if a post that was not itself refused gave
 -- it 0, and rejected if such a post gave it another code.
 use Rattle.std.specs.Prelude.{ℕ, ◌+◌, List, [], ◌∷◌, ◌++◌, Some, None, Ok, Err, Option, Result}
-use Rattle.bytes.specs.Classes.{Bytes}
+use Rattle.octets.specs.Classes.{Bytes}
 use Rattle.file.specs.declared.opening.Opening.{Opening}
 use Rattle.file.specs.Records.{first_of, transactions_of}
 use Rattle.book.specs.Meaning.{BookMeaning}

@@ -1,6 +1,6 @@
 -- What holds after calls on a book that other calls led to from a new one: the three promises, and what follows from them.
 use Rattle.std.specs.Prelude.{◌≡◌, ℕ, List, ◌++◌, Ok}
-use Rattle.bytes.specs.Classes.{Bytes}
+use Rattle.octets.specs.Classes.{Bytes}
 use Rattle.layout.specs.declared.pair.Pair.{Pair}
 use Rattle.book.specs.Meaning.{BookMeaning, empty_book}
 use Rattle.transaction.specs.Checks.{Holds}

@@ -1,7 +1,7 @@
 -- The calls on a book: what each answers, and the book afterwards; and lists of calls.
 use Rattle.std.specs.Prelude.{ℕ, Bool, cond, List, [], ◌∷◌, map, length, is_some, Ok, Err, Option, Result, ◌==◌, nat_lt}
 use Rattle.std.specs.Option.{option_map}
-use Rattle.bytes.specs.Classes.{Bytes}
+use Rattle.octets.specs.Classes.{Bytes}
 use Rattle.layout.specs.declared.pair.Pair.{Pair}
 use Rattle.file.specs.declared.opening.Opening.{Opening}
 use Rattle.file.specs.declared.opening.OpeningFault.{OpeningFault}

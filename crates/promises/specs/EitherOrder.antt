@@ -1,6 +1,6 @@
 -- Unrelated files may come in either order.
 use Rattle.std.specs.Prelude.{◌≡◌, List, [], ◌∷◌, ◌++◌, Ok, All, Contains, ◌≢◌}
-use Rattle.bytes.specs.Classes.{Bytes}
+use Rattle.octets.specs.Classes.{Bytes}
 use Rattle.layout.specs.declared.pair.Pair.{Pair}
 use Rattle.file.specs.declared.opening.Opening.{Opening}
 use Rattle.file.specs.Openings.{opening}

@@ -1,6 +1,6 @@
 -- Worked facts, from the bytes of records to verdicts and packets.
 use Rattle.std.specs.Prelude.{◌≡◌, ℕ, true, List, [], ◌∷◌, ◌++◌, replicate, Ok, Err, codes}
-use Rattle.bytes.specs.Classes.{Bytes}
+use Rattle.octets.specs.Classes.{Bytes}
 use Rattle.book.specs.Meaning.{BookMeaning, empty_book}
 use Rattle.transaction.specs.declared.verdict.Verdict.{Verdict}
 use Rattle.transaction.specs.declared.verdict.Verdict.TheVariants.{Accepted, Refused}

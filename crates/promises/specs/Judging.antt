@@ -1,6 +1,6 @@
 -- Every check of a transaction, on its own and against the book, in one list, in the order in which they count.
 use Rattle.std.specs.Prelude.{ℕ, List, [], ◌++◌, Some, None, Option}
-use Rattle.bytes.specs.Classes.{Bytes}
+use Rattle.octets.specs.Classes.{Bytes}
 use Rattle.file.specs.Records.{first_of, others_of}
 use Rattle.book.specs.Meaning.{BookMeaning}
 use Rattle.transaction.specs.declared.header.Transaction.{Transaction}

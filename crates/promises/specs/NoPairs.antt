@@ -1,6 +1,6 @@
 -- A transaction has no pairs exactly if its verdict is 30, or 21, 22, 32 or 51 in its header.
 use Rattle.std.specs.Prelude.{◌≡◌, ℕ, Bool, false, cond, ◌&&◌, ◌||◌, List, [], Some, None, Option, ◌==◌}
-use Rattle.bytes.specs.Classes.{Bytes}
+use Rattle.octets.specs.Classes.{Bytes}
 use Rattle.layout.specs.declared.pair.Pair.{Pair}
 use Rattle.file.specs.Records.{first_of}
 use Rattle.book.specs.Meaning.{BookMeaning}

@@ -1,7 +1,7 @@
 -- The packet, byte by byte. An item is a length (of what follows the length), a kind, and a body; numbers are little-endian.
 use Rattle.std.specs.Prelude.{ℕ, zero, suc, ◌+◌, ◌*◌, ◌/◌, ◌%◌, Bool, true, false, cond, List, [], ◌∷◌, ◌++◌, length, take, drop, ◌==◌}
-use Rattle.bytes.specs.Classes.{Bytes}
-use Rattle.bytes.specs.Parts.{part}
+use Rattle.octets.specs.Classes.{Bytes}
+use Rattle.octets.specs.Parts.{part}
 use Rattle.transaction.specs.declared.verdict.Verdict.{Verdict}
 use Rattle.transaction.specs.declared.verdict.Verdict.TheVariants.{Accepted, Refused}
 

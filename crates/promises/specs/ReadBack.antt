@@ -1,6 +1,6 @@
 -- No digit of a packet is lost.
 use Rattle.std.specs.Prelude.{◌≡◌, ℕ, ◌^◌, ◌<◌, ◌≤◌, List, length, Ok}
-use Rattle.bytes.specs.Classes.{Bytes}
+use Rattle.octets.specs.Classes.{Bytes}
 use Rattle.file.specs.declared.opening.Opening.{Opening}
 use Rattle.file.specs.Openings.{opening}
 use Rattle.file.specs.Records.{records}

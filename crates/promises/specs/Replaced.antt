@@ -1,7 +1,7 @@
 -- One transaction of a file replaced leaves the others alone.
 use Rattle.std.specs.Prelude.{◌≡◌, ℕ, ◌<◌, ◌≤◌, Bool, true, false, ◌⊎◌, List, [], ◌∷◌, ◌++◌, length, Some, Ok, All, Contains, ◌==◌, ◌≢◌}
 use Rattle.std.specs.List.{flat_map, slice_get}
-use Rattle.bytes.specs.Classes.{Bytes}
+use Rattle.octets.specs.Classes.{Bytes}
 use Rattle.layout.specs.declared.pair.Pair.{Pair}
 use Rattle.file.specs.Openings.{ends_in_feed}
 use Rattle.file.specs.Records.{records, is_header, many, first_of, others_of, transactions, transactions_of}

@@ -3,8 +3,8 @@ use Rattle.std.proofs.Common.{◌≡◌, ℕ, ◌-◌, ◌/◌, ◌%◌, ◌^◌
 use native.Mathlib.Nat.{zero-div}
 use Rattle.std.proofs.lemmas.List.{get_or_past, take_all}
 use Rattle.std.proofs.lemmas.Bool.{eq-eqb}
-use Rattle.bytes.specs.Classes.{Bytes, type_n}
-use Rattle.bytes.specs.Values.{value_of}
+use Rattle.octets.specs.Classes.{Bytes, type_n}
+use Rattle.octets.specs.Values.{value_of}
 use Rattle.register.specs.Maps.{bit_at, mapped}
 
 -- past the bytes no bit is set

@@ -4,7 +4,7 @@ use Rattle.std.specs.Str.{bytes_eq}
 use Rattle.std.proofs.lemmas.Slice.Eq.{bytes_eq-Decides}
 use Rattle.std.proofs.lemmas.List.{length-drop, length-take-le}
 use Rattle.std.proofs.lemmas.Bool.{cases_Bool}
-use Rattle.bytes.specs.Classes.{Bytes}
+use Rattle.octets.specs.Classes.{Bytes}
 use Rattle.register.specs.Keys.{cut, is_in, key_check, keys_of, listed}
 
 not_cut : (n w : ℕ) (text k : Bytes) → n * w ≤ length text → (length k ≡ w → ⊥) → is_in (cut n w text) k ≡ false

@@ -1,6 +1,6 @@
 -- The five registers.
 use Rattle.std.specs.Prelude.{Bool, true}
-use Rattle.bytes.specs.Classes.{Bytes}
+use Rattle.octets.specs.Classes.{Bytes}
 use Rattle.layout.specs.declared.field.Lookup.{Lookup}
 use Rattle.layout.specs.declared.field.Lookup.TheVariants.{Free, Agencies, Offices, Symbols, Units, Accounts}
 

@@ -4,7 +4,7 @@ use Rattle.std.specs.declared.cmp.Ordering.{Ordering}
 use Rattle.std.specs.Cmp.Lexicographic.{slice_cmp}
 use Rattle.std.specs.Ordering.{is_lt}
 use Rattle.std.specs.Str.{bytes_eq}
-use Rattle.bytes.specs.Classes.{Bytes}
+use Rattle.octets.specs.Classes.{Bytes}
 use Rattle.register.specs.declared.fault.TextFault.{TextFault}
 use Rattle.register.specs.declared.fault.TextFault.TheVariants.{Width, Order, Size}
 use Rattle.std.specs.Ordering as std-orderings

@@ -1,7 +1,7 @@
 -- Ledger accounts in a map of bits.
 use Rattle.std.specs.Prelude.{ℕ, ◌/◌, ◌%◌, ◌^◌, Bool, cond, ◌&&◌, List, [], length, is_ok, Ok, Err, Result, ◌==◌, slice_index}
-use Rattle.bytes.specs.Classes.{Bytes, type_n}
-use Rattle.bytes.specs.Values.{value_of}
+use Rattle.octets.specs.Classes.{Bytes, type_n}
+use Rattle.octets.specs.Values.{value_of}
 use Rattle.register.specs.declared.fault.TextFault.{TextFault}
 use Rattle.register.specs.declared.fault.TextFault.TheVariants.{Width, Order, Size}
 

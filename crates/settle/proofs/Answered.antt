@@ -1,8 +1,8 @@
 -- What a book answers is judged as what it holds.
 use Rattle.std.proofs.Common.{◌≡◌, ℕ, suc, ◌*◌, ◌^◌, ◌<◌, ◌≤◌, Bool, true, false, leb, List, [], ◌∷◌, ◌++◌, length, take, drop, is_some, Some, None, Option, sym, refl, ap, ◌∙◌, mul-le-mul_right, pow-suc, arith, length-take}
 use native.Mathlib.Nat.{pow-le-pow_right}
-use Rattle.bytes.specs.Classes.{Bytes, is_digit}
-use Rattle.bytes.specs.Values.{value_of, digit_of}
+use Rattle.octets.specs.Classes.{Bytes, is_digit}
+use Rattle.octets.specs.Values.{value_of, digit_of}
 use Rattle.std.specs.Option.{option_map}
 use Rattle.std.proofs.lemmas.Bool.{and_parts, leb-true}
 use Rattle.layout.specs.declared.set_id.SetId.{SetId}

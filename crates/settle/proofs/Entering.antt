@@ -1,8 +1,8 @@
 -- What an accepted transaction finds, and what its actions leave.
 use Rattle.std.proofs.Common.{◌≡◌, ℕ, suc, ◌<◌, ◌≤◌, Bool, true, false, cond, not, ◌&&◌, eqb, List, [], ◌∷◌, length, is_some, Some, None, Ok, Err, Option, sym, refl, ap, ◌∙◌, subst, arith}
 use Rattle.std.proofs.lemmas.Bool.{and_parts, and_right, eqb-true, eq-eqb, ne_eqb, le-leb, true≢false}
-use Rattle.bytes.specs.Classes.{Bytes}
-use Rattle.bytes.proofs.Columns.{columns_length}
+use Rattle.octets.specs.Classes.{Bytes}
+use Rattle.octets.proofs.Columns.{columns_length}
 use Rattle.layout.specs.declared.pair.Pair.{Pair}
 use Rattle.layout.specs.declared.set_id.SetId.{SetId}
 use Rattle.layout.specs.declared.set_id.SetId.TheVariants.{Payment, Collection, ReceiverAdjustment, SenderAdjustment, ZeroDollar, PostSgl}

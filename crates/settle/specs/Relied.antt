@@ -1,6 +1,6 @@
 -- What a transaction that has passed its own checks is relied on for.
 use Rattle.std.specs.Prelude.{◌≡◌, ℕ, ◌≤◌, Bool, true, length, ◌==◌}
-use Rattle.bytes.specs.Classes.{Bytes}
+use Rattle.octets.specs.Classes.{Bytes}
 use Rattle.layout.specs.declared.set_id.SetId.{SetId}
 use Rattle.layout.specs.Layouts.{detail_of, width_of}
 use Rattle.file.specs.Records.{records}

@@ -14,7 +14,7 @@ use crate::fault::SettleFault;
 use book::entry::Entry;
 use book::line::Line;
 use book::{Book, line_of};
-use bytes::class::{is_blank, is_same};
+use octets::class::{is_blank, is_same};
 use layout::pair::Pair;
 use layout::set_id::SetId;
 use transaction::details::{Detail, Details};

@@ -1,6 +1,6 @@
 -- The pairs of a transaction by its header.
 use Rattle.std.proofs.Common.{◌≡◌, ℕ, length, Ok, Err, Option, sym, refl, ap, ◌∙◌, arith}
-use Rattle.bytes.specs.Classes.{Bytes}
+use Rattle.octets.specs.Classes.{Bytes}
 use Rattle.layout.specs.declared.Layout.{Layout}
 use Rattle.layout.specs.Layouts.{width_of}
 use Rattle.transaction.specs.declared.fault.RecordCause.{RecordCause}

@@ -1,6 +1,6 @@
 -- The pairs of a transaction: its own and its original's, as far as its header is good.
 use Rattle.std.specs.Prelude.{List, [], ◌∷◌, is_some, Some, None, Option}
-use Rattle.bytes.specs.Classes.{Bytes}
+use Rattle.octets.specs.Classes.{Bytes}
 use Rattle.layout.specs.declared.set_id.SetId.{SetId}
 use Rattle.layout.specs.Layouts.{header_of}
 use Rattle.layout.specs.SetIds.{set_id_in}

@@ -1,6 +1,6 @@
 -- A transaction that has passed every check of its own.
 use Rattle.std.specs.Prelude.{◌≡◌, ℕ, List, Some, None, Option}
-use Rattle.bytes.specs.Classes.{Bytes}
+use Rattle.octets.specs.Classes.{Bytes}
 use Rattle.layout.specs.declared.set_id.SetId.{SetId}
 use Rattle.layout.specs.SetIds.{set_id_in}
 use Rattle.file.specs.Records.{is_detail, many, first_of, others_of, records}

@@ -2,9 +2,9 @@
 ghost use Rattle.std.specs.Prelude.{◌≡◌, ◌+◌, ◌^◌, ◌<◌, ◌≤◌, cond};
 ghost use Rattle.transaction.specs.Details.{is_debit, sgl_amount, debit_in, credit_in, is_absent, is_balanced, is_post_sgl, is_good_set, with_entry};
 
-use bytes::class::is_same;
-use bytes::part::columns_of;
-use bytes::value::number_at;
+use octets::class::is_same;
+use octets::part::columns_of;
+use octets::value::number_at;
 use layout::set_id::SetId;
 
 // Sums of whole cents: the numbers are so wide that no text is long enough to fill them.

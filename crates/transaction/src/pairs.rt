@@ -9,7 +9,7 @@ ghost use Rattle.transaction.specs.Verdicts.{verdict};
 
 use crate::header::Transaction;
 use crate::own::check_header;
-use bytes::line::Line;
+use octets::line::Line;
 use file::records::Records;
 use layout::pair::Pair;
 use layout::set_id::SetId;

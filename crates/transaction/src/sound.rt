@@ -11,7 +11,7 @@ ghost use Rattle.transaction.specs.Verdicts.{Counts, FirstCounts};
 use crate::fault::{RecordCause, RecordFault, TransactionFault};
 use crate::header::Transaction;
 use crate::own::check_set;
-use bytes::line::Line;
+use octets::line::Line;
 use file::records::Records;
 use layout::set_id::SetId;
 use register::five::Registers;

@@ -1,6 +1,6 @@
 // Runs the files of an independent implementation through first look, and compares every answer and every byte of the buffer.
 use anyhow::Context;
-use bytes::class::is_same;
+use octets::class::is_same;
 use first_look::first_look;
 use std::fs;
 

@@ -1,6 +1,6 @@
 -- What the codes say to people, and the names of the Set IDs.
 use Rattle.std.specs.Prelude.{ℕ, cond, codes, ◌==◌}
-use Rattle.bytes.specs.Classes.{Bytes}
+use Rattle.octets.specs.Classes.{Bytes}
 use Rattle.layout.specs.declared.set_id.SetId.{SetId}
 use Rattle.layout.specs.declared.set_id.SetId.TheVariants.{Payment, Collection, ReceiverAdjustment, SenderAdjustment, ZeroDollar, PostSgl}
 

@@ -1,5 +1,5 @@
 use Rattle.std.proofs.Common.{◌≡◌, ◌-◌, true, take, sym, ap, ◌∙◌, arith}
-use Rattle.bytes.specs.Classes.{all, is_printable}
+use Rattle.octets.specs.Classes.{all, is_printable}
 use Rattle.file.proofs.Feeds.{line_exact}
 use Rattle.file.proofs.feed.first_line.Goals as goal
 

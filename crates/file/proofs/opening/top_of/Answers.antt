@@ -1,5 +1,5 @@
 use Rattle.std.proofs.Common.{◌≡◌, List, [], ◌∷◌, get_or, drop, sym, refl, ap, ◌∙◌, rules}
-use Rattle.bytes.specs.Classes.{Bytes}
+use Rattle.octets.specs.Classes.{Bytes}
 use Rattle.file.specs.Records.{records, first_of, is_header}
 use Rattle.file.proofs.Headers.{header_first}
 use Rattle.file.proofs.opening.top_of.Goals as goal

@@ -1,6 +1,6 @@
 use Rattle.std.proofs.Common.{ℕ, List, [], ◌∷◌, ap, ◌∙◌}
 use Rattle.std.proofs.lemmas.Result.{err_from_is_err_and}
-use Rattle.bytes.specs.Classes.{Bytes}
+use Rattle.octets.specs.Classes.{Bytes}
 use Rattle.transaction.specs.Details.{sender_in, receiver_in}
 use Rattle.transaction.specs.Verdicts.{Check, check, verdict}
 use Rattle.promises.specs.Against.{agree}

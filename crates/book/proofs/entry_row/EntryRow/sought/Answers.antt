@@ -1,6 +1,6 @@
 use Rattle.std.proofs.Common.{◌≡◌, ℕ, ◌≤◌, Bool, true, false, cond, List, length, take, drop, Some, None, Option, sym, refl, ap, ◌∙◌, arith}
 use Rattle.std.proofs.lemmas.List.{take_all, length-drop}
-use Rattle.bytes.specs.Classes.{Bytes}
+use Rattle.octets.specs.Classes.{Bytes}
 use Rattle.book.specs.Told.{EntryTold, told, entry_told}
 use Rattle.book.specs.Rows.{sound_entry, entry_of}
 use Rattle.book.proofs.entry_row.EntryRow.sought.Goals as goal

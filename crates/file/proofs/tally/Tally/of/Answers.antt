@@ -1,7 +1,7 @@
 use Rattle.std.proofs.Common.{◌≡◌, ℕ, ◌+◌, ◌<◌, ◌≤◌, Bool, cond, [], length, sym, ap, ◌∙◌, arith, rules}
 use Rattle.std.proofs.lemmas.List.{nil_from_length}
 use Rattle.std.proofs.lemmas.Bool.{eqb-true, eqb-false}
-use Rattle.bytes.specs.Classes.{Bytes}
+use Rattle.octets.specs.Classes.{Bytes}
 use Rattle.file.specs.Records.{records, first_of, many, is_header, is_detail, is_entry}
 use Rattle.file.proofs.Tallies.{tally_turn, tally_room, length_turn, records_few, tally_is}
 use Rattle.file.proofs.tally.Tally.of.Goals as goal

@@ -1,6 +1,0 @@
-use Rattle.std.proofs.Common.{◌≡◌, ◌&&◌, drop}
-use Rattle.bytes.specs.Classes.{all}
-use Rattle.bytes.proofs.class.each.Given as goal
-
-abbrev pub invariant-loop-b : goal.invariant-loop-b
-invariant-loop-b g l = (l.ok && all g.C.Class.test (drop l.b-index l.bytes)) ≡ all g.C.Class.test l.bytes

@@ -1,6 +1,0 @@
-use Rattle.std.proofs.Common.{rules}
-use Rattle.bytes.proofs.Alls.{known_part}
-use Rattle.bytes.proofs.line.Line.columns.Goals as goal
-
-pub invariant-of-result : goal.invariant-of-result
-invariant-of-result c = (search (rules, known_part), tt)

@@ -1,0 +1,39 @@
+-- A loop that joins a test of each element.
+use Rattle.std.proofs.Common.{◌≡◌, ℕ, zero, suc, ◌+◌, ◌<◌, ◌≤◌, Bool, true, false, not, ◌&&◌, ◌||◌, List, [], ◌∷◌, length, get_or, take, drop, sym, refl, ap, ◌∙◌, not-suc-le-zero}
+use mathlib.Core.Bool.{and_assoc, and-true}
+use Rattle.std.proofs.lemmas.List.{at_drop_more, at_drop_all}
+use Rattle.std.proofs.lemmas.Bool.{and_parts, and_from, and_left}
+use Rattle.octets.specs.Classes.{all}
+
+module _ (p : ℕ → Bool) (xs : List ℕ) (i : ℕ) (ok : Bool) where
+  pub join_more : (t r : Bool) → i < length xs → t ≡ p (get_or xs i 0) → (ok && all p (drop i xs)) ≡ r → (ok && t && all p (drop (i + 1) xs)) ≡ r
+  join_more t r h is inv =
+      let e : all p (drop i xs) ≡ (p (get_or xs i 0) && all p (drop (i + 1) xs)) = at_drop_more (all p) xs i 0 h in
+      and_assoc ok t (all p (drop (i + 1) xs)) ∙ ap (λ b. ok && (b && all p (drop (i + 1) xs))) is ∙ ap (λ b. ok && b) (sym e) ∙ inv
+
+  pub join_end : (r : Bool) → length xs ≤ i → (ok && all p (drop i xs)) ≡ r → ok ≡ r
+  join_end r h inv = sym (and-true ok) ∙ ap (λ b. ok && b) (sym (at_drop_all (all p) xs i h)) ∙ inv
+
+-- the first element fails
+pub all_head : (p : ℕ → Bool) (xs : List ℕ) → 0 < length xs → p (get_or xs 0 0) ≡ false → false ≡ all p xs
+all_head p [] h t = absurd (not-suc-le-zero h)
+all_head p (x ∷ xs) h t = sym (and_left (p x) (all p xs) t)
+
+pub all_drop : (p : ℕ → Bool) (n : ℕ) (xs : List ℕ) → all p xs ≡ true → all p (drop n xs) ≡ true
+all_drop p zero xs t = t
+all_drop p (suc n) [] t = t
+all_drop p (suc n) (x ∷ xs) t = all_drop p n xs (and_parts (p x) (all p xs) t).1
+
+pub all_take : (p : ℕ → Bool) (n : ℕ) (xs : List ℕ) → all p xs ≡ true → all p (take n xs) ≡ true
+all_take p zero xs t = refl
+all_take p (suc n) [] t = t
+all_take p (suc n) (x ∷ xs) t = let q = and_parts (p x) (all p xs) t in and_from (p x) (all p (take n xs)) q.0 (all_take p n xs q.1)
+
+-- a part of what passes
+pub all_part : (p : ℕ → Bool) (n a : ℕ) (xs : List ℕ) → all p xs ≡ true → all p (take n (drop a xs)) ≡ true
+all_part p n a xs t = all_take p n (drop a xs) (all_drop p a xs t)
+
+-- what is known of bytes is known of a part of them
+pub known_part : (known : Bool) (p : ℕ → Bool) (n a : ℕ) (xs ys : List ℕ) → ys ≡ take n (drop a xs) → (not known || all p xs) ≡ true → (not known || all p ys) ≡ true
+known_part true p n a xs ys e t = ap (all p) e ∙ all_part p n a xs t
+known_part false p n a xs ys e t = refl

@@ -1,0 +1,9 @@
+use Rattle.std.proofs.Common.{min, arith}
+use Rattle.octets.proofs.Values.{room}
+use Rattle.octets.proofs.value.number_at.Goals as goal
+
+pub returns : goal.returns
+returns c = record {
+  value = cc;
+  below = room _ _ (min c.args.n 18) c.value-of.ensures.below (omega (arith, c.columns-of.ensures.len));
+}
