@@ -4,7 +4,7 @@ ghost use Rattle.layout.specs.SetIds.{set_id_of};
 ghost use Rattle.field.specs.Shapes.{is_filler, is_one_of, is_one_set, is_positive, shape};
 
 use crate::symbol::is_symbol;
-use octets::class::every;
+use octets::class::{Digit, Space, Zero, every};
 use octets::line::Line;
 use layout::field::Kind;
 use layout::set_id::SetId;
@@ -21,7 +21,7 @@ pub fn is_filler(kind: Kind) -> bool
 fn is_positive(bytes: &[u8]) -> bool
     ensures { result ≡ is_positive bytes.now }
 {
-    every::<octets::class::Digit>(bytes) && !every::<octets::class::Zero>(bytes)
+    every::<Digit>(bytes) && !every::<Zero>(bytes)
 }
 
 fn is_one_of(letters: [u8; 2], bytes: &[u8]) -> bool
@@ -45,9 +45,9 @@ pub fn is_shaped(kind: Kind, bytes: Line<'_>) -> bool
 {
     match kind {
         Kind::Text => bytes.is_type_a(),
-        Kind::Number => every::<octets::class::Digit>(bytes.bytes()),
+        Kind::Number => every::<Digit>(bytes.bytes()),
         Kind::Positive => is_positive(bytes.bytes()),
-        Kind::Filler => every::<octets::class::Space>(bytes.bytes()),
+        Kind::Filler => every::<Space>(bytes.bytes()),
         Kind::Symbol => is_symbol(bytes.bytes()),
         Kind::OneOf(letters) => is_one_of(letters, bytes.bytes()),
         Kind::OneSet(a, b) => is_one_set(a, b, bytes.bytes()),

@@ -2,7 +2,7 @@
 ghost use Rattle.std.specs.Prelude.{◌≡◌, ◌+◌, ◌<◌, ◌≤◌, length, take, drop};
 ghost use Rattle.file.specs.Lengths.{line_len};
 
-use octets::class::each;
+use octets::class::{InLine, each};
 use octets::line::Line;
 
 // Past the blocks of N bytes that have no line feed.
@@ -14,7 +14,7 @@ fn past_blocks<const N: usize>(text: &[u8], from: usize) -> usize
 {
     let mut at = from;
     while text.len() - at >= N {
-        if !each::<octets::class::InLine>(&text[at..at + N]) {
+        if !each::<InLine>(&text[at..at + N]) {
             return at;
         }
         at += N;

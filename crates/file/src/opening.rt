@@ -5,7 +5,7 @@ ghost use Rattle.file.specs.Records.{records, begins, is_header};
 
 use crate::records::Records;
 use crate::transactions::begins_header;
-use octets::class::{every, is_same, is_type_a};
+use octets::class::{Digit, every, is_same, is_type_a};
 use octets::part::columns_of;
 use octets::value::number_at;
 
@@ -55,7 +55,7 @@ fn is_batch_header(record: &[u8]) -> bool
 {
     record.len() == 32
         && is_same(columns_of(record, 1, 5), b"BIPAC")
-        && every::<octets::class::Digit>(columns_of(record, 6, 8))
+        && every::<Digit>(columns_of(record, 6, 8))
         && is_type_a(columns_of(record, 14, 19))
 }
 

@@ -3,7 +3,7 @@ ghost use Rattle.std.specs.Prelude.{◌≡◌, true, not, ◌||◌};
 ghost use Rattle.octets.specs.Classes.{all, is_printable, type_a};
 ghost use Rattle.octets.specs.Parts.{columns};
 
-use crate::class::{each, every};
+use crate::class::{Printable, each, every};
 use crate::part::columns_of;
 
 // What one pass over a record has shown is kept, so that its text fields need only their first byte.
@@ -30,7 +30,7 @@ impl<'a> Line<'a> {
         ensures same { result.bytes.now ≡ bytes.now }
         ensures printable { result.printable ≡ all is_printable bytes.now }
     {
-        let printable = each::<crate::class::Printable>(bytes);
+        let printable = each::<Printable>(bytes);
         Line { bytes, printable }
     }
 
@@ -60,7 +60,7 @@ impl<'a> Line<'a> {
     pub fn is_printable(self) -> bool
         ensures { result ≡ all is_printable self.entry.bytes.now }
     {
-        self.is_known_printable() || every::<crate::class::Printable>(self.bytes)
+        self.is_known_printable() || every::<Printable>(self.bytes)
     }
 
     pub fn is_type_a(self) -> bool

@@ -4,7 +4,7 @@ ghost use Rattle.register.specs.Maps.{is_set, bit_at, map_check, mapped, kept};
 
 use crate::Register;
 use crate::fault::TextFault;
-use octets::class::each;
+use octets::class::{Digit, each};
 use octets::value::number_at;
 
 // The bytes that hold a bit for each number of four digits.
@@ -61,7 +61,7 @@ impl<'a> Register for BitMap<'a> {
 
     // Only keys of four digits are in a map.
     fn has(&self, key: &[u8]) -> bool {
-        if key.len() != 4 || !each::<octets::class::Digit>(key) {
+        if key.len() != 4 || !each::<Digit>(key) {
             return false;
         }
         has_account(self.bits, number_at(key, 1, 4) as usize)

@@ -5,5 +5,5 @@ use Rattle.octets.proofs.value.number_at.Goals as goal
 pub returns : goal.returns
 returns c = record {
   value = cc;
-  below = room _ _ (min c.args.n 18) c.value-of.ensures.below (omega (arith, c.columns-of.ensures.len));
+  below = room _ _ (min c.args.n 18) c.value_of.ensures.below (omega (arith, c.columns_of.ensures.len));
 }
