@@ -1,5 +1,5 @@
 -- The number that digits write.
-use Rattle.std.specs.Prelude.{ℕ, ◌+◌, ◌-◌, ◌*◌, ◌^◌, cond, List, [], ◌∷◌, length}
+use Rattle.std.specs.Prelude.{ℕ, ◌+◌, ◌-◌, ◌*◌, ◌^◌, cond, [], ◌∷◌, length}
 use Rattle.octets.specs.Classes.{Bytes, is_digit}
 
 -- any other byte counts as 0

@@ -1,4 +1,6 @@
 // Bytes of a record: their classes, parts of a record, the numbers that digits write.
+#![tactic(auto)]
+
 pub mod class;
 pub mod line;
 pub mod part;

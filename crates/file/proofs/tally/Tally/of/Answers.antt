@@ -8,39 +8,39 @@ use Rattle.file.proofs.tally.Tally.of.Goals as goal
 use Rattle.file.proofs.tally.Tally.of.Goals.{After-bytes-record}
 
 some : (c : After-bytes-record) → 0 < length c.loop-rest.rest.rest.now
-some c = omega (arith, eqb-false (length c.loop-rest.rest.rest.now) 0 (sym c.is-done.ensures ∙ c.loop-rest-test.true))
+some c = omega (arith, eqb-false (length c.loop-rest.rest.rest.now) 0 (sym c.is_done.ensures ∙ c.loop-rest-test.true))
 
 first : (c : After-bytes-record) → c.bytes-record.result.now ≡ first_of (records c.loop-rest.rest.rest.now)
-first c = c.bytes-record.ensures ∙ c.next-line.ensures.line
+first c = c.bytes-record.ensures ∙ c.next_line.ensures.line
 
-records_on : (c : After-bytes-record) → c.loop-rest.tally.records + 1 + length (records c.next-line.new.self.rest.now) ≡ length (records c.args.text.now)
-records_on c = length_turn c.loop-rest.rest.rest.now c.next-line.new.self.rest.now _ _ (some c) c.next-line.ensures.others c.loop-rest.invariant.0
+records_on : (c : After-bytes-record) → c.loop-rest.tally.records + 1 + length (records c.next_line.new.self.rest.now) ≡ length (records c.args.text.now)
+records_on c = length_turn c.loop-rest.rest.rest.now c.next_line.new.self.rest.now _ _ (some c) c.next_line.ensures.others c.loop-rest.invariant.0
 
 -- the same of the records that pass a test
-many_on : (c : After-bytes-record) (p : Bytes → Bool) (n t : ℕ) → t ≡ cond (p c.bytes-record.result.now) 1 0 → n + many p (records c.loop-rest.rest.rest.now) ≡ many p (records c.args.text.now) → n + t + many p (records c.next-line.new.self.rest.now) ≡ many p (records c.args.text.now)
-many_on c p n t is inv = tally_turn p c.loop-rest.rest.rest.now c.next-line.new.self.rest.now c.bytes-record.result.now n t _ (some c) (first c) c.next-line.ensures.others is inv
+many_on : (c : After-bytes-record) (p : Bytes → Bool) (n t : ℕ) → t ≡ cond (p c.bytes-record.result.now) 1 0 → n + many p (records c.loop-rest.rest.rest.now) ≡ many p (records c.args.text.now) → n + t + many p (records c.next_line.new.self.rest.now) ≡ many p (records c.args.text.now)
+many_on c p n t is inv = tally_turn p c.loop-rest.rest.rest.now c.next_line.new.self.rest.now c.bytes-record.result.now n t _ (some c) (first c) c.next_line.ensures.others is inv
 
-pub overflow-add-tally : goal.overflow-add-tally
-overflow-add-tally c = omega (arith, records_on (goal.at.overflow-add-tally c).After-bytes-record, records_few c.args.text.now)
+pub overflow_add-tally : goal.overflow_add-tally
+overflow_add-tally c = omega (arith, records_on (goal.at.overflow_add-tally c).After-bytes-record, records_few c.args.text.now)
 
-pub overflow-add-tally-in-loop-rest : goal.overflow-add-tally-in-loop-rest
-overflow-add-tally-in-loop-rest c = omega (arith, tally_room is_header c.args.text.now _ _ _ (many_on (goal.at.overflow-add-tally-in-loop-rest c).After-bytes-record is_header _ _ c.one-if.ensures.value c.loop-rest.invariant.1))
+pub overflow_add-tally-in-loop-rest : goal.overflow_add-tally-in-loop-rest
+overflow_add-tally-in-loop-rest c = omega (arith, tally_room is_header c.args.text.now _ _ _ (many_on (goal.at.overflow_add-tally-in-loop-rest c).After-bytes-record is_header _ _ c.one_if.ensures.value c.loop-rest.invariant.1))
 
-pub overflow-add-tally-in-loop-rest-2 : goal.overflow-add-tally-in-loop-rest-2
-overflow-add-tally-in-loop-rest-2 c =
-    let is : c.one-if-in-loop-rest.result ≡ cond (is_detail c.bytes-record.result.now) 1 0 = search rules in
-    omega (arith, tally_room is_detail c.args.text.now _ _ _ (many_on (goal.at.overflow-add-tally-in-loop-rest-2 c).After-bytes-record is_detail _ _ is c.loop-rest.invariant.2))
+pub overflow_add-tally-in-loop-rest-2 : goal.overflow_add-tally-in-loop-rest-2
+overflow_add-tally-in-loop-rest-2 c =
+    let is : c.one_if-in-loop-rest.result ≡ cond (is_detail c.bytes-record.result.now) 1 0 = search rules in
+    omega (arith, tally_room is_detail c.args.text.now _ _ _ (many_on (goal.at.overflow_add-tally-in-loop-rest-2 c).After-bytes-record is_detail _ _ is c.loop-rest.invariant.2))
 
-pub overflow-add-tally-in-loop-rest-3 : goal.overflow-add-tally-in-loop-rest-3
-overflow-add-tally-in-loop-rest-3 c = omega (arith, tally_room is_entry c.args.text.now _ _ _ (many_on (goal.at.overflow-add-tally-in-loop-rest-3 c).After-bytes-record is_entry _ _ c.one-if-in-loop-rest-2.ensures.value c.loop-rest.invariant.3))
+pub overflow_add-tally-in-loop-rest-3 : goal.overflow_add-tally-in-loop-rest-3
+overflow_add-tally-in-loop-rest-3 c = omega (arith, tally_room is_entry c.args.text.now _ _ _ (many_on (goal.at.overflow_add-tally-in-loop-rest-3 c).After-bytes-record is_entry _ _ c.one_if-in-loop-rest-2.ensures.value c.loop-rest.invariant.3))
 
 pub loop-rest-preserved : goal.loop-rest-preserved
 loop-rest-preserved c =
     let a = (goal.at.loop-rest-preserved c).After-bytes-record in (
       records_on a,
-      many_on a is_header _ _ c.one-if.ensures.value c.loop-rest.invariant.1,
+      many_on a is_header _ _ c.one_if.ensures.value c.loop-rest.invariant.1,
       many_on a is_detail _ _ (search rules) c.loop-rest.invariant.2,
-      many_on a is_entry _ _ c.one-if-in-loop-rest-2.ensures.value c.loop-rest.invariant.3,
+      many_on a is_entry _ _ c.one_if-in-loop-rest-2.ensures.value c.loop-rest.invariant.3,
     )
 
 pub returns : goal.returns

@@ -18,12 +18,12 @@ returns-else-self g c =
     let l : length (shown t) < t.places = omega (arith, c.if-self.false) in
     record {
       answer = adds_ok key (shown t) t.places x (ap (λ k. held ranks key k (shown t)) (sym own) ∙ gap.none) l;
-      after = c.put-in.ensures.after ∙ sym (gap.enter x (sym own));
-      room = c.put-in.ensures.room;
+      after = c.put_in.ensures.after ∙ sym (gap.enter x (sym own));
+      room = c.put_in.ensures.room;
       fine = (
-        omega (arith, c.put-in.ensures.more, c.put-in.ensures.room),
-        omega (arith, c.put-in.ensures.given, c.put-in.ensures.room),
-        ap (ascends ranks key) c.put-in.ensures.after ∙ gap.stays x (sym own),
-        ap (every g.T.Keyed.sound) c.put-in.ensures.after ∙ every_inserted g.T.Keyed.sound (shown t) c.in-Err.at x f.3 c.requires.sound,
+        omega (arith, c.put_in.ensures.more, c.put_in.ensures.room),
+        omega (arith, c.put_in.ensures.given, c.put_in.ensures.room),
+        ap (ascends ranks key) c.put_in.ensures.after ∙ gap.stays x (sym own),
+        ap (every g.T.Keyed.sound) c.put_in.ensures.after ∙ every_inserted g.T.Keyed.sound (shown t) c.in-Err.at x f.3 c.requires.sound,
       );
     }
