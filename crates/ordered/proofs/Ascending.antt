@@ -5,7 +5,7 @@ use Rattle.std.proofs.lemmas.Bool.{cases_lt, eqb-true, and_parts, and_from}
 use Rattle.std.proofs.lemmas.List.{get_or_read}
 use Rattle.std.specs.Cmp.{unsigned_tied, nat_cmp_total}
 use Rattle.std.specs.Ordering.{is_lt, is_eq, is_gt, ordering_reverse, ordering_then, MatchOrdering}
-use Rattle.std.specs.Cmp.Lexicographic.{slice_cmp, Lex, lex-says, lists_total}
+use Rattle.std.specs.Cmp.Lexicographic.{slice_cmp, lists_total}
 use Rattle.std.specs.List.{insert}
 use Rattle.ordered.specs.Order.{ranks, TotalOrder, leads, ascends, held, entered, altered, Here, Gap}
 use Rattle.std.specs.Ordering as std-orderings
@@ -27,9 +27,9 @@ pub bytewise : TotalOrder ranks
 bytewise = record { chain = (lists_total nat_cmp_total).trans; turn = (lists_total nat_cmp_total).antisymm; same = same_bytes }
 
 -- what the comparison with the record at m says
-pub told : {X : Type 0} (key : X → List ℕ) (xs : List X) (m : ℕ) (x : X) (b k : List ℕ) (r o : Ordering) → m < length xs → x ≡ get_or xs m x → b ≡ key x → Lex (λ (a b : ℕ) (o : Ordering). MatchOrdering o (a < b) (a ≡ b) (b < a)) b k r → r ≡ o → (d : X) → ranks (key (get_or xs m d)) k ≡ o
+pub told : {X : Type 0} (key : X → List ℕ) (xs : List X) (m : ℕ) (x : X) (b k : List ℕ) (r o : Ordering) → m < length xs → x ≡ get_or xs m x → b ≡ key x → r ≡ ranks b k → r ≡ o → (d : X) → ranks (key (get_or xs m d)) k ≡ o
 told key xs m x b k r o l e q h p d =
-    ap (λ y. ranks (key y) k) (sym (get_or_read xs m x l e d)) ∙ (ap (λ y. ranks y k) (sym q) ∙ (sym (lex-says nat_cmp_total b k r h) ∙ p))
+    ap (λ y. ranks (key y) k) (sym (get_or_read xs m x l e d)) ∙ (ap (λ y. ranks y k) (sym q) ∙ (sym h ∙ p))
 
 pub is_less : (o : Ordering) → is_lt o ≡ true → o ≡ Less
 is_less Less h = refl

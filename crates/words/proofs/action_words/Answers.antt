@@ -18,8 +18,8 @@ returns-in-17 c = sym (ap (λ k. action_words k c.args.other.now) c.in-17.is)
 pub returns-in-18 : goal.returns-in-18
 returns-in-18 c = sym (ap (λ k. action_words k c.args.other.now) c.in-18.is)
 
-pub returns-in-default : goal.returns-in-default
-returns-in-default c =
+pub returns-in_default : goal.returns-in_default
+returns-in_default c =
     let k = c.args.code in
     let n14 : eqb k 14 ≡ false = ne_eqb k 14 (λ e. omega arith) in
     let n15 : eqb k 15 ≡ false = ne_eqb k 15 (λ e. omega arith) in

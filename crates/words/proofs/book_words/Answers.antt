@@ -24,8 +24,8 @@ returns-in-66 c = sym (ap (λ k. book_words k c.args.other.now) c.in-66.is)
 pub returns-in-67 : goal.returns-in-67
 returns-in-67 c = sym (ap (λ k. book_words k c.args.other.now) c.in-67.is)
 
-pub returns-in-default : goal.returns-in-default
-returns-in-default c =
+pub returns-in_default : goal.returns-in_default
+returns-in_default c =
     let k = c.args.code in
     let n61 : eqb k 61 ≡ false = ne_eqb k 61 (λ e. omega arith) in
     let n62 : eqb k 62 ≡ false = ne_eqb k 62 (λ e. omega arith) in

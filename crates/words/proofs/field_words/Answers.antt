@@ -12,8 +12,8 @@ returns-in-22 c = sym (ap (λ k. field_words k c.args.other.now) c.in-22.is)
 pub returns-in-51 : goal.returns-in-51
 returns-in-51 c = sym (ap (λ k. field_words k c.args.other.now) c.in-51.is)
 
-pub returns-in-default : goal.returns-in-default
-returns-in-default c =
+pub returns-in_default : goal.returns-in_default
+returns-in_default c =
     let k = c.args.code in
     let n21 : eqb k 21 ≡ false = ne_eqb k 21 (λ e. omega arith) in
     let n22 : eqb k 22 ≡ false = ne_eqb k 22 (λ e. omega arith) in

@@ -27,8 +27,8 @@ returns-in-7 c = sym (ap (λ k. file_words k c.args.other.now) c.in-7.is)
 pub returns-in-8 : goal.returns-in-8
 returns-in-8 c = sym (ap (λ k. file_words k c.args.other.now) c.in-8.is)
 
-pub returns-in-default : goal.returns-in-default
-returns-in-default c =
+pub returns-in_default : goal.returns-in_default
+returns-in_default c =
     let k = c.args.code in
     let n1 : eqb k 1 ≡ false = ne_eqb k 1 (λ e. omega arith) in
     let n2 : eqb k 2 ≡ false = ne_eqb k 2 (λ e. omega arith) in

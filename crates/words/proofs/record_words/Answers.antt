@@ -18,8 +18,8 @@ returns-in-33 c = sym (ap (λ k. record_words k c.args.other.now) c.in-33.is)
 pub returns-in-34 : goal.returns-in-34
 returns-in-34 c = sym (ap (λ k. record_words k c.args.other.now) c.in-34.is)
 
-pub returns-in-default : goal.returns-in-default
-returns-in-default c =
+pub returns-in_default : goal.returns-in_default
+returns-in_default c =
     let k = c.args.code in
     let n30 : eqb k 30 ≡ false = ne_eqb k 30 (λ e. omega arith) in
     let n31 : eqb k 31 ≡ false = ne_eqb k 31 (λ e. omega arith) in

@@ -12,8 +12,8 @@ returns-in-12 c = sym (ap (λ k. register_words k c.args.other.now) c.in-12.is)
 pub returns-in-13 : goal.returns-in-13
 returns-in-13 c = sym (ap (λ k. register_words k c.args.other.now) c.in-13.is)
 
-pub returns-in-default : goal.returns-in-default
-returns-in-default c =
+pub returns-in_default : goal.returns-in_default
+returns-in_default c =
     let k = c.args.code in
     let n11 : eqb k 11 ≡ false = ne_eqb k 11 (λ e. omega arith) in
     let n12 : eqb k 12 ≡ false = ne_eqb k 12 (λ e. omega arith) in

@@ -12,8 +12,8 @@ returns-in-42 c = sym (ap (λ k. transaction_words k c.args.other.now) c.in-42.i
 pub returns-in-43 : goal.returns-in-43
 returns-in-43 c = sym (ap (λ k. transaction_words k c.args.other.now) c.in-43.is)
 
-pub returns-in-default : goal.returns-in-default
-returns-in-default c =
+pub returns-in_default : goal.returns-in_default
+returns-in_default c =
     let k = c.args.code in
     let n41 : eqb k 41 ≡ false = ne_eqb k 41 (λ e. omega arith) in
     let n42 : eqb k 42 ≡ false = ne_eqb k 42 (λ e. omega arith) in

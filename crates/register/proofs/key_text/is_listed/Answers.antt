@@ -3,7 +3,7 @@ use Rattle.register.specs.Keys.{rank, cut}
 use Rattle.register.proofs.Order.{standing, in_any, ascends_parted}
 use Rattle.register.proofs.Texts.{room_at, turn_less, turn_equal, turn_greater}
 use Rattle.register.proofs.key_text.is_listed.Goals as goal
-use Rattle.register.proofs.key_text.is_listed.Goals.{After-rank-of}
+use Rattle.register.proofs.key_text.is_listed.Goals.{After-rank_of}
 
 pub loop-left-init : goal.loop-left-init
 loop-left-init c = (
@@ -13,26 +13,26 @@ loop-left-init c = (
   omega arith,
 )
 
-pub overflow-mul-half : goal.overflow-mul-half
-overflow-mul-half c = omega (arith, room_at (c.loop-left.left / 2) c.loop-left.left c.args.width _ (omega arith) c.loop-left.invariant.2)
+pub overflow_mul-half : goal.overflow_mul-half
+overflow_mul-half c = omega (arith, room_at (c.loop-left.left / 2) c.loop-left.left c.args.width _ (omega arith) c.loop-left.invariant.2)
 
-pub split-at-requires : goal.split-at-requires
-split-at-requires c = omega (arith, room_at (c.loop-left.left / 2) c.loop-left.left c.args.width _ (omega arith) c.loop-left.invariant.2)
+pub split_at-requires : goal.split_at-requires
+split_at-requires c = omega (arith, room_at (c.loop-left.left / 2) c.loop-left.left c.args.width _ (omega arith) c.loop-left.invariant.2)
 
-pub split-at-requires-in-loop-left : goal.split-at-requires-in-loop-left
-split-at-requires-in-loop-left c = omega (arith, room_at (c.loop-left.left / 2) c.loop-left.left c.args.width _ (omega arith) c.loop-left.invariant.2, c.split-at.ensures.back_len)
+pub split_at-requires-in-loop-left : goal.split_at-requires-in-loop-left
+split_at-requires-in-loop-left c = omega (arith, room_at (c.loop-left.left / 2) c.loop-left.left c.args.width _ (omega arith) c.loop-left.invariant.2, c.split_at.ensures.back_len)
 
 -- how the key in the middle stands to the key that is sought
-told : (c : After-rank-of) → standing c.args.key.now (take c.args.width (drop (c.loop-left.left / 2 * c.args.width) c.loop-left.rest.now)) ≡ c.rank-of.result
-told c = sym (c.rank-of.ensures ∙ ap (standing c.args.key.now) (c.split-at-in-loop-left.ensures.front ∙ ap (take c.args.width) c.split-at.ensures.back))
+told : (c : After-rank_of) → standing c.args.key.now (take c.args.width (drop (c.loop-left.left / 2 * c.args.width) c.loop-left.rest.now)) ≡ c.rank_of.result
+told c = sym (c.rank_of.ensures ∙ ap (standing c.args.key.now) (c.split_at-in-loop-left.ensures.front ∙ ap (take c.args.width) c.split_at.ensures.back))
 
 pub returns-in-Equal : goal.returns-in-Equal
 returns-in-Equal c =
-    turn_equal (standing c.args.key.now) (c.loop-left.left / 2) c.loop-left.left c.args.width c.loop-left.rest.now (omega arith) _ (told (goal.at.returns-in-Equal c).After-rank-of ∙ c.in-Equal.is) c.loop-left.invariant.0
+    turn_equal (standing c.args.key.now) (c.loop-left.left / 2) c.loop-left.left c.args.width c.loop-left.rest.now (omega arith) _ (told (goal.at.returns-in-Equal c).After-rank_of ∙ c.in-Equal.is) c.loop-left.invariant.0
 
 pub loop-left-preserved-in-Greater : goal.loop-left-preserved-in-Greater
 loop-left-preserved-in-Greater c =
-    let p = turn_greater (standing c.args.key.now) (c.loop-left.left / 2) c.loop-left.left c.args.width c.loop-left.rest.now (omega arith) _ (told (goal.at.loop-left-preserved-in-Greater c).After-rank-of ∙ c.in-Greater.is) c.loop-left.invariant.1 c.loop-left.invariant.0 in (
+    let p = turn_greater (standing c.args.key.now) (c.loop-left.left / 2) c.loop-left.left c.args.width c.loop-left.rest.now (omega arith) _ (told (goal.at.loop-left-preserved-in-Greater c).After-rank_of ∙ c.in-Greater.is) c.loop-left.invariant.1 c.loop-left.invariant.0 in (
       p.0,
       p.1,
       omega (arith, room_at (c.loop-left.left / 2) c.loop-left.left c.args.width _ (omega arith) c.loop-left.invariant.2),
@@ -41,10 +41,10 @@ loop-left-preserved-in-Greater c =
 
 pub loop-left-preserved : goal.loop-left-preserved
 loop-left-preserved c =
-    let p = turn_less (standing c.args.key.now) (c.loop-left.left / 2) c.loop-left.left c.args.width c.loop-left.rest.now (omega arith) _ (told (goal.at.loop-left-preserved c).After-rank-of ∙ c.in-Less.is) c.loop-left.invariant.1 c.loop-left.invariant.0 in
-    let behind = c.split-at-in-loop-left.ensures.back ∙ ap (drop c.args.width) c.split-at.ensures.back in (
+    let p = turn_less (standing c.args.key.now) (c.loop-left.left / 2) c.loop-left.left c.args.width c.loop-left.rest.now (omega arith) _ (told (goal.at.loop-left-preserved c).After-rank_of ∙ c.in-Less.is) c.loop-left.invariant.1 c.loop-left.invariant.0 in
+    let behind = c.split_at-in-loop-left.ensures.back ∙ ap (drop c.args.width) c.split_at.ensures.back in (
       rw behind p.0,
       rw behind p.1,
-      omega (arith, room_at (c.loop-left.left / 2) c.loop-left.left c.args.width _ (omega arith) c.loop-left.invariant.2, c.split-at.ensures.back_len, c.split-at-in-loop-left.ensures.back_len),
-      omega (arith, c.split-at.ensures.back_len, c.split-at-in-loop-left.ensures.back_len),
+      omega (arith, room_at (c.loop-left.left / 2) c.loop-left.left c.args.width _ (omega arith) c.loop-left.invariant.2, c.split_at.ensures.back_len, c.split_at-in-loop-left.ensures.back_len),
+      omega (arith, c.split_at.ensures.back_len, c.split_at-in-loop-left.ensures.back_len),
     )
