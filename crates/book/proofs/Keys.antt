@@ -125,12 +125,12 @@ last_digit m n Equal Greater h k = omega arith
 last_digit m n Greater p h k = omega arith
 
 pub digits_rank : (k m n : ℕ) → m < 10 ^ k → n < 10 ^ k → ranks (digits_of k m) (digits_of k n) ≡ nat_cmp m n
-digits_rank zero m n a b = let e : m ≡ n = omega arith in (nat_cmp_total.says m n Equal e)
+digits_rank zero m n a b = let e : m ≡ n = omega arith in (keys.nat_cmp_is m n Equal e)
 digits_rank (suc k) m n a b =
     let w : 10 ^ suc k ≡ 10 ^ k * 10 = pow-suc 10 k in
     push_ranks (digits_of k (m / 10)) (digits_of k (n / 10)) (48 + m % 10) (48 + n % 10) (length_digits k (m / 10) ∙ sym (length_digits k (n / 10)))
     ∙ (ap (λ o. ordering_then o (nat_cmp (48 + m % 10) (48 + n % 10))) (digits_rank k (m / 10) (n / 10) (omega arith) (omega arith))
-    ∙ (nat_cmp_total.says m n _ (last_digit m n (nat_cmp_total.cmp (m / 10) (n / 10)) (nat_cmp_total.cmp (48 + m % 10) (48 + n % 10)) (keys.ranks (m / 10) (n / 10)) (keys.ranks (48 + m % 10) (48 + n % 10)))))
+    ∙ (keys.nat_cmp_is m n _ (last_digit m n (nat_cmp (m / 10) (n / 10)) (nat_cmp (48 + m % 10) (48 + n % 10)) (keys.ranks (m / 10) (n / 10)) (keys.ranks (48 + m % 10) (48 + n % 10)))))
 
 value_push : (bs : Bytes) (b : ℕ) → value_of (bs ++ b ∷ []) ≡ value_of bs * 10 + digit_of b
 value_push [] b = omega arith

@@ -113,7 +113,7 @@ impl EntryRow {
         ensures { result ≡ seekable office.now (entry_of self.now) }
     {
         let front = &self.key[0..5];
-        front == office && is_adjustable(self.set_id) && self.left > 0
+        front == office.as_slice() && is_adjustable(self.set_id) && self.left > 0
     }
 }
 

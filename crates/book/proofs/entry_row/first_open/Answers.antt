@@ -6,12 +6,12 @@ use Rattle.book.specs.Rows.{entry_of}
 use Rattle.book.proofs.Blank.{blank_entry}
 use Rattle.book.proofs.entry_row.first_open.Goals as goal
 
-pub returns-then-is-open : goal.returns-then-is-open
-returns-then-is-open c =
+pub returns-then-is_open : goal.returns-then-is_open
+returns-then-is_open c =
     let office = c.args.office.now in
     let rows = c.args.rows.now in
     record {
-      at = (c.loop-i-test.true, λ d. ap (λ x. seekable office (entry_of x)) (get_or_default rows c.loop-i.i d blank_entry c.loop-i-test.true) ∙ (sym c.is-open.ensures ∙ c.if-is-open.true));
+      at = (c.loop-i-test.true, λ d. ap (λ x. seekable office (entry_of x)) (get_or_default rows c.loop-i.i d blank_entry c.loop-i-test.true) ∙ (sym c.is_open.ensures ∙ c.if-is_open.true));
       office = c.told-office;
     }
 
@@ -21,7 +21,7 @@ loop-i-preserved c =
     let rows = c.args.rows.now in
     let e = at_drop_more (λ xs. find (seekable office) (map entry_of xs)) rows c.loop-i.i blank_entry c.loop-i-test.true in
     let x = entry_of (get_or rows c.loop-i.i blank_entry) in
-    sym (e ∙ ap (λ t. cond t (Some x) (find (seekable office) (map entry_of (drop (c.loop-i.i + 1) rows)))) (sym c.is-open.ensures ∙ c.if-is-open.false)) ∙ c.loop-i.invariant
+    sym (e ∙ ap (λ t. cond t (Some x) (find (seekable office) (map entry_of (drop (c.loop-i.i + 1) rows)))) (sym c.is_open.ensures ∙ c.if-is_open.false)) ∙ c.loop-i.invariant
 
 pub returns : goal.returns
 returns c = record {

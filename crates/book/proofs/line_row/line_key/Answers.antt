@@ -17,8 +17,8 @@ six p a b c d e f l =
 
 pub returns : goal.returns
 returns c = record {
-  is = six c.copy-from-slice.new.self _ _ _ _ _ _ c.copy-from-slice.ensures.len
-      ∙ ap (λ t. t ++ digits_of 6 c.args.number.value) (c.copy-from-slice.ensures.after ∙ c.entry-key-front.ensures.is);
-  office = c.entry-key-front.ensures.office;
-  reference = c.entry-key-front.ensures.reference;
+  is = six c.copy_from_slice.new.self _ _ _ _ _ _ c.copy_from_slice.ensures.len
+      ∙ ap (λ t. t ++ digits_of 6 c.args.number.value) (c.copy_from_slice.ensures.after ∙ c.entry_key-front.ensures.is);
+  office = c.entry_key-front.ensures.office;
+  reference = c.entry_key-front.ensures.reference;
 }

@@ -8,10 +8,10 @@ use Rattle.book.proofs.entry_row.EntryRow.new.Goals as goal
 pub returns : goal.returns
 returns c =
     let e = c.args.new in
-    let w = ap pair_of c.entry-key.ensures.is ∙ pair_whole c.args.pair.now c.entry-key.ensures.office in
+    let w = ap pair_of c.entry_key.ensures.is ∙ pair_whole c.args.pair.now c.entry_key.ensures.office in
     record {
       means = λ i. record { pair = w i; set_id = e.set_id; day = e.day; total = e.total; open_amount = e.total };
-      key = c.entry-key.ensures.is;
+      key = c.entry_key.ensures.is;
       sound = le-leb e.total e.total (le_refl e.total);
-      office = c.entry-key.ensures.office;
+      office = c.entry_key.ensures.office;
     }

@@ -13,4 +13,4 @@ pub returns-in-Some : goal.returns-in-Some
 returns-in-Some c =
     let x = c.args.self.now in
     both (sound_entry x) _ (drop 5 x.key) (told c.in-Some.entry) (entry_told (entry_of x)) c.in-Some.ensures
-    (c.copy-from-slice.ensures.after ∙ take_all 8 (drop 5 x.key) (omega (arith, length-drop 5 x.key)))
+    (c.copy_from_slice.ensures.after ∙ take_all 8 (drop 5 x.key) (omega (arith, length-drop 5 x.key)))

@@ -12,7 +12,7 @@ returns c =
     let d = entry_entered (shown b.entries) (shown b.lines) (shown b.marks) b.entries.places b.lines.places b.marks.places c.requires.0.3 c.args.pair.now row.office
     c.new-row.result c.args.new (shown c.add.new.self) c.add.result row.means row.key row.sound add.answer add.after in
     record {
-      answer = c.as-book.ensures ∙ d.answer_is;
+      answer = c.as_book.ensures ∙ d.answer_is;
       after = ap (λ n. rows_mean (shown c.add.new.self) (shown b.lines) (shown b.marks) n b.lines.places b.marks.places) add.room ∙ d.after_is;
       fine = (add.fine, c.requires.1, c.requires.2, c.requires.3);
     }

@@ -14,7 +14,7 @@ returns c =
     let d = line_entered (shown b.entries) (shown b.lines) (shown b.marks) b.entries.places b.lines.places b.marks.places c.requires.1.3 c.args.pair.now c.args.number.value row.office row.reference small
     c.new-row.result c.args.line.now (shown c.add.new.self) c.add.result row.means row.key row.sound add.answer add.after in
     record {
-      answer = c.as-book.ensures ∙ d.answer_is;
+      answer = c.as_book.ensures ∙ d.answer_is;
       after = ap (λ n. rows_mean (shown b.entries) (shown c.add.new.self) (shown b.marks) b.entries.places n b.marks.places) add.room ∙ d.after_is;
       fine = (c.requires.0, add.fine, c.requires.2, c.requires.3);
     }

@@ -9,7 +9,7 @@ use Rattle.small_book.proofs.tables.Tables.count.Goals as goal
 pub returns : goal.returns
 returns c =
     let ms = arrived c.args.self.now.marks in
-    c.sum-counts.ensures
+    c.sum_counts.ensures
     ∙ (ap (λ xs. counted_in (map mark_of xs)) c.records.ensures
     ∙ (λ i. record {
       accepted = sym (sum_sorted mark_code sound_mark mark_of accepted_in ms) i;

@@ -15,7 +15,7 @@ returns c =
     let d = line_entered (listed entry_code b.entries) (listed line_code b.lines) (listed mark_code b.marks) 64 512 16 (all_sound line_code sound_line b.lines c.requires.1) c.args.pair.now c.args.number.value row.office row.reference small
     c.new-row.result c.args.line.now (listed line_code c.add.new.self) c.add.result row.means row.key row.sound add.answer add.after in
     record {
-      answer = c.as-book.ensures ∙ d.answer_is;
+      answer = c.as_book.ensures ∙ d.answer_is;
       after = d.after_is;
       fine = (c.requires.0, add.fine, c.requires.2);
     }

@@ -16,24 +16,24 @@ use Rattle.small_book.proofs.tables.Tables.take_open.Goals as goal
 pub returns-in-None : goal.returns-in-None
 returns-in-None c =
     let b = c.args.self.now in
-    let none = ap (λ k. held ranks entry_code k (listed entry_code b.entries)) (sym c.entry-key-key.ensures.is) ∙ c.in-None.ensures.none in
-    let d = take_absent (listed entry_code b.entries) (listed line_code b.lines) (listed mark_code b.marks) 64 512 16 (all_sound entry_code sound_entry b.entries c.requires.0) c.args.pair.now c.entry-key-key.ensures.office c.args.amount none in
+    let none = ap (λ k. held ranks entry_code k (listed entry_code b.entries)) (sym c.entry_key-key.ensures.is) ∙ c.in-None.ensures.none in
+    let d = take_absent (listed entry_code b.entries) (listed line_code b.lines) (listed mark_code b.marks) 64 512 16 (all_sound entry_code sound_entry b.entries c.requires.0) c.args.pair.now c.entry_key-key.ensures.office c.args.amount none in
     record { answer = d.answer_is; after = d.after_is; fine = c.requires }
 
-pub returns-then-not-may-take : goal.returns-then-not-may-take
-returns-then-not-may-take c =
+pub returns-then-not-may_take : goal.returns-then-not-may_take
+returns-then-not-may_take c =
     let b = c.args.self.now in
     let at = c.in-Some.at in
     let f = c.in-Some.ensures in
     let n = came entry_code sound_entry b.entries c.requires.0 in
     let l : at < b.entries.n = omega (arith, f.within) in
     let seen = get_or-take b.entries.n b.entries.rows at blank_entry l in
-    let h = ap (λ k. held ranks entry_code k (listed entry_code b.entries)) (sym c.entry-key-key.ensures.is) ∙ (f.is blank_entry ∙ ap Some seen) in
-    let d = take_above (listed entry_code b.entries) (listed line_code b.lines) (listed mark_code b.marks) 64 512 16 (all_sound entry_code sound_entry b.entries c.requires.0) c.args.pair.now c.entry-key-key.ensures.office c.args.amount _ h (sym c.may-take.ensures ∙ c.if-not-may-take.true) in
+    let h = ap (λ k. held ranks entry_code k (listed entry_code b.entries)) (sym c.entry_key-key.ensures.is) ∙ (f.is blank_entry ∙ ap Some seen) in
+    let d = take_above (listed entry_code b.entries) (listed line_code b.lines) (listed mark_code b.marks) 64 512 16 (all_sound entry_code sound_entry b.entries c.requires.0) c.args.pair.now c.entry_key-key.ensures.office c.args.amount _ h (sym c.may_take.ensures ∙ c.if-not-may_take.true) in
     record { answer = d.answer_is; after = d.after_is; fine = c.requires }
 
-pub returns-else-not-may-take : goal.returns-else-not-may-take
-returns-else-not-may-take c =
+pub returns-else-not-may_take : goal.returns-else-not-may_take
+returns-else-not-may_take c =
     let b = c.args.self.now in
     let at = c.in-Some.at in
     let f = c.in-Some.ensures in
@@ -45,12 +45,12 @@ returns-else-not-may-take c =
     let y = less x in
     let s : x.left ≤ x.total = leb-true x.left x.total (ap sound_entry (sym seen) ∙ every_at sound_entry (arrived b.entries) at blank_entry c.requires.0.3 f.within) in
     let e = take-set-lt b.entries.n b.entries.rows at y l in
-    let k = sym c.entry-key-key.ensures.is in
+    let k = sym c.entry_key-key.ensures.is in
     let h = ap (λ k. held ranks entry_code k (listed entry_code b.entries)) k ∙ (f.is blank_entry ∙ ap Some seen) in
     let changed = ap (sorted ranks entry_code) (take-set-lt b.entries.n b.entries.rows at (less x) l ∙ ap (λ y. set (arrived b.entries) at (less y)) (sym seen))
     ∙ (sym (f.change less (λ y. refl) blank_entry) ∙ ap (λ q. altered ranks entry_code q less (listed entry_code b.entries)) (sym k)) in
-    let d = take_done (listed entry_code b.entries) (listed line_code b.lines) (listed mark_code b.marks) 64 512 16 (all_sound entry_code sound_entry b.entries c.requires.0) c.args.pair.now c.entry-key-key.ensures.office c.args.amount x h
-    (sorted ranks entry_code (take b.entries.n (set b.entries.rows at (less x)))) (sym c.may-take.ensures ∙ c.if-not-may-take.false) changed in
+    let d = take_done (listed entry_code b.entries) (listed line_code b.lines) (listed mark_code b.marks) 64 512 16 (all_sound entry_code sound_entry b.entries c.requires.0) c.args.pair.now c.entry_key-key.ensures.office c.args.amount x h
+    (sorted ranks entry_code (take b.entries.n (set b.entries.rows at (less x)))) (sym c.may_take.ensures ∙ c.if-not-may_take.false) changed in
     record {
       answer = d.answer_is;
       after = d.after_is;
