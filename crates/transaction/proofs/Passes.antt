@@ -1,6 +1,7 @@
 -- What passes has passed every part.
 use Rattle.std.proofs.Common.{◌≡◌, ℕ, Bool, true, false, cond, eqb, List, [], ◌∷◌, ◌++◌, length, IfOk, Ok, Err, All, Result, sym, refl, ap, ◌∙◌, subst, ⊎_elim, arith}
 use Rattle.std.proofs.lemmas.Bool.{eqb-true}
+use Rattle.std.proofs.lemmas.List.Elements.{All-nil, All-cons}
 use Rattle.octets.specs.Classes.{Bytes}
 use Rattle.layout.specs.declared.Layout.{Layout}
 use Rattle.layout.specs.declared.set_id.SetId.{SetId}
@@ -40,25 +41,25 @@ header_long holds set h rs t =
 
 -- one check more in front, which passes
 pass : (c : Check) (cs : List Check) (v : Verdict) → Passes c → Counts cs v → Counts (c ∷ cs) v
-pass c cs Accepted e h = (e, h)
+pass c cs Accepted e h = All-cons Passes c cs e h
 pass c cs (Refused code r k) e h = record {
   before = c ∷ h.before;
   failing = h.failing;
   others = h.others;
   split = ap (λ xs. c ∷ xs) h.split;
-  all_pass = (e, h.all_pass);
+  all_pass = All-cons Passes c h.before e h.all_pass;
   fails = h.fails;
   gives = h.gives;
 }
 
 -- accepted exactly if every check passes; else the first failing check
 pub first_counts : FirstCounts
-first_counts [] = tt
+first_counts [] = All-nil Passes
 first_counts (c ∷ cs) = go c.passes refl (first_counts cs)
   where
     go : (v : Bool) → c.passes ≡ v → Counts cs (verdict cs) → Counts (c ∷ cs) (verdict (c ∷ cs))
     go true e h = subst (λ v. Counts (c ∷ cs) (cond v (verdict cs) (refusal c))) (sym e) (pass c cs (verdict cs) e h)
-    go false e h = subst (λ v. Counts (c ∷ cs) (cond v (verdict cs) (refusal c))) (sym e) (record { before = []; failing = c; others = cs; split = refl; all_pass = tt; fails = e; gives = refl })
+    go false e h = subst (λ v. Counts (c ∷ cs) (cond v (verdict cs) (refusal c))) (sym e) (record { before = []; failing = c; others = cs; split = refl; all_pass = All-nil Passes; fails = e; gives = refl })
 
 -- what is told where a header passes
 pub told_long : (holds : Holds) (set : SetId) (h : Bytes) (rs : List Bytes) (n : ℕ) (r : Result ℕ TransactionFault) → r ≡ telling n (set_layer holds set h rs) → IfOk r (λ _. length h ≡ width_of (header_of set))
