@@ -1,9 +1,9 @@
 // Fields of a payment's records, good and refused.
 ghost use Rattle.std.specs.Prelude.{◌<◌};
 
-use octets::line::Line;
 use field::check_field;
 use layout::Layout;
+use octets::line::Line;
 use register::bit_map::BitMap;
 use register::five::Five;
 use register::key_list::KeyList;

@@ -1,8 +1,8 @@
 // Runs an independent implementation's vectors as far as no book is needed: every file's opening, and the verdict of every transaction on its own.
 use anyhow::Context;
-use octets::class::is_same;
 use file::opening::{Opening, body};
 use file::transactions::Transactions;
+use octets::class::is_same;
 use register::bit_map::BitMap;
 use register::five::{Five, Registers};
 use register::key_list::KeyList;

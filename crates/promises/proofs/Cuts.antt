@@ -1,5 +1,6 @@
 -- A file cut into records and transactions, with one transaction between others.
 use Rattle.std.proofs.Common.{◌≡◌, ℕ, suc, ◌+◌, ◌-◌, ◌≤◌, Bool, true, false, cond, eqb, List, [], ◌∷◌, ◌++◌, length, get_or, drop, All, sym, refl, ap, ◌∙◌, append_assoc, arith}
+use Rattle.std.proofs.lemmas.List.Elements.{All-nil, All-tail, All-head, All-cons}
 use Rattle.std.proofs.lemmas.List.{drop-append-le}
 use Rattle.std.proofs.lemmas.Bool.{eqb-true, true≢false}
 use Rattle.octets.specs.Classes.{Bytes}
@@ -58,8 +59,8 @@ abbrev NoneH : List Bytes → Type 0
 NoneH rs = All (λ r. is_header r ≡ false) rs
 
 none_many : (rs : List Bytes) → many is_header rs ≡ 0 → NoneH rs
-none_many [] h = tt
-none_many (r ∷ rs) h = go (is_header r) refl h (none_many rs)
+none_many [] h = All-nil (λ r. is_header r ≡ false)
+none_many (r ∷ rs) h = let k = go (is_header r) refl h (none_many rs) in All-cons (λ r. is_header r ≡ false) r rs k.0 k.1
   where
     go : (v : Bool) → is_header r ≡ v → cond v 1 0 + many is_header rs ≡ 0 → (many is_header rs ≡ 0 → NoneH rs) → (is_header r ≡ false) × NoneH rs
     go true e k rest = absurd (omega arith)
@@ -68,11 +69,11 @@ none_many (r ∷ rs) h = go (is_header r) refl h (none_many rs)
 until_body : (body rs : List Bytes) → NoneH body → StartsH rs → until_header (body ++ rs) ≡ body
 until_body [] [] h s = refl
 until_body [] (r ∷ rs) h s = simp s
-until_body (r ∷ body) rs h s = let k = until_body body rs h.1 s in let e = h.0 in simp (e, k)
+until_body (r ∷ body) rs h s = let k = until_body body rs (All-tail (λ r. is_header r ≡ false) r body h) s in let e = All-head (λ r. is_header r ≡ false) r body h in simp (e, k)
 
 skip_body : (body rs : List Bytes) → NoneH body → transactions (body ++ rs) ≡ transactions rs
 skip_body [] rs h = refl
-skip_body (r ∷ body) rs h = let k = skip_body body rs h.1 in let e = h.0 in simp (e, k)
+skip_body (r ∷ body) rs h = let k = skip_body body rs (All-tail (λ r. is_header r ≡ false) r body h) in let e = All-head (λ r. is_header r ≡ false) r body h in simp (e, k)
 
 until_front : (front rs : List Bytes) (r : Bytes) → is_header r ≡ true → until_header (front ++ r ∷ rs) ≡ until_header front
 until_front [] rs r h = simp h

@@ -1,5 +1,6 @@
 -- A transaction asks and changes the book at its own pairs, and no more than its places.
 use Rattle.std.proofs.Common.{◌≡◌, ℕ, suc, ◌+◌, ◌-◌, ◌≤◌, Bool, true, false, cond, List, [], ◌∷◌, ◌++◌, length, Some, None, All, Option, sym, refl, ap, ◌∙◌, subst, ap₂, arith}
+use Rattle.std.proofs.lemmas.List.Elements.{All-nil, All-head, All-tail, All-cons}
 use Rattle.std.proofs.lemmas.Bool.{le-leb}
 use Rattle.octets.specs.Classes.{Bytes}
 use Rattle.layout.specs.declared.pair.Pair.{Pair}
@@ -29,30 +30,30 @@ use Rattle.promises.proofs.Judged.{then, verdict_append, Sound, sound_own, sound
 
 -- parts of All over an append
 pub all_left : {X : Type 0} (P : X → Type 0) (xs ys : List X) → All P (xs ++ ys) → All P xs
-all_left P [] ys h = tt
-all_left P (x ∷ xs) ys h = (h.0, all_left P xs ys h.1)
+all_left P [] ys h = All-nil P
+all_left P (x ∷ xs) ys h = All-cons P x xs (All-head P x (xs ++ ys) h) (all_left P xs ys (All-tail P x (xs ++ ys) h))
 
 pub all_right : {X : Type 0} (P : X → Type 0) (xs ys : List X) → All P (xs ++ ys) → All P ys
 all_right P [] ys h = h
-all_right P (x ∷ xs) ys h = all_right P xs ys h.1
+all_right P (x ∷ xs) ys h = all_right P xs ys (All-tail P x (xs ++ ys) h)
 
 -- outside its pairs an accepted transaction changes nothing
 own_outside : (day : ℕ) (t : Transaction) (ds : List DetailRead) (o : Option Pair) (q : Pair) (h : Held) → All (λ p. same_pair p q ≡ false) (listed o) → own_effect day t ds o q h ≡ h
 unfolding own_effect
 own_outside day t ds None q h apart = refl
-own_outside day t ds (Some p) q h apart = simp apart.0
+own_outside day t ds (Some p) q h apart = simp (All-head (λ p. same_pair p q ≡ false) p [] apart)
 
 take_outside : (n : ℕ) (o : Option Pair) (q : Pair) (h : Held) → All (λ p. same_pair p q ≡ false) (listed o) → take_effect n o q h ≡ h
 unfolding take_effect
 take_outside n None q h apart = refl
-take_outside n (Some o) q h apart = simp apart.0
+take_outside n (Some o) q h apart = simp (All-head (λ p. same_pair p q ≡ false) o [] apart)
 
 pub taken_among : (P : Pair → Type 0) (t : Transaction) → All P (listed (original_pair t)) → All P (listed (taken_from t))
 taken_among P t h = go (adjusts (set_id_of t))
   where
     go : (v : Bool) → All P (listed (cond v (original_pair t) None))
     go true = h
-    go false = tt
+    go false = All-nil P
 
 apply_outside : (b : BookMeaning) (day : ℕ) (t : Transaction) (ds : List DetailRead) (q : Pair) → All (λ p. same_pair p q ≡ false) (listed (own_pair t) ++ listed (original_pair t)) → at (apply day t ds b) q ≡ at b q
 unfolding effect
@@ -89,7 +90,8 @@ Within holds P ts = All (λ t. All P (pairs_in holds t)) ts
 
 pub after_outside : (holds : Holds) (day : ℕ) (q : Pair) (ts : List (List Bytes)) (b : BookMeaning) → Within holds (λ p. same_pair p q ≡ false) ts → at (after holds b day ts) q ≡ at b q
 after_outside holds day q [] b apart = refl
-after_outside holds day q (t ∷ ts) b apart = after_outside holds day q ts (entered holds b day t) apart.1 ∙ entered_outside holds b day t q apart.0
+after_outside holds day q (t ∷ ts) b apart = after_outside holds day q ts (entered holds b day t) (All-tail (λ t. All (λ p. same_pair p q ≡ false) (pairs_in holds t)) t ts apart)
+    ∙ entered_outside holds b day t q (All-head (λ t. All (λ p. same_pair p q ≡ false) (pairs_in holds t)) t ts apart)
 
 -- ---- places
 
@@ -188,7 +190,7 @@ module _ (holds : Holds) (P : Pair → Type 0) (day : ℕ) where
 
   checks_alike : (b c : BookMeaning) (o : Option Pair) (f : Held → List Check) → Alike b c → All P (listed o) → checks_at b o f ≡ checks_at c o f
   checks_alike b c None f alike h = refl
-  checks_alike b c (Some o) f alike h = ap f (alike o h.0)
+  checks_alike b c (Some o) f alike h = ap f (alike o (All-head P o [] h))
 
   sound_alike : (b c : BookMeaning) (rs : List Bytes) (s : Sound holds rs) → Alike b c → All P (pairs_in holds rs) →
       1 ≤ free_entries b → many is_detail rs ≤ free_lines b → 1 ≤ free_entries c → many is_detail rs ≤ free_lines c →
@@ -235,5 +237,5 @@ module _ (holds : Holds) (P : Pair → Type 0) (day : ℕ) where
   pub verdicts_alike : (ts : List (List Bytes)) (b c : BookMeaning) → Alike b c → Within holds P ts → Room b ts → Room c ts → verdicts holds b day ts ≡ verdicts holds c day ts
   verdicts_alike [] b c alike h x y = refl
   verdicts_alike (t ∷ ts) b c alike h x y =
-      let e = judge_alike b c t ts ts alike h.0 x y in
-      ap₂ (λ v vs. v ∷ vs) e (verdicts_alike ts (entered holds b day t) (entered holds c day t) (entered_alike b c t alike e) h.1 (room_next b t ts x) (room_next c t ts y))
+      let e = judge_alike b c t ts ts alike (All-head (λ t. All P (pairs_in holds t)) t ts h) x y in
+      ap₂ (λ v vs. v ∷ vs) e (verdicts_alike ts (entered holds b day t) (entered holds c day t) (entered_alike b c t alike e) (All-tail (λ t. All P (pairs_in holds t)) t ts h) (room_next b t ts x) (room_next c t ts y))

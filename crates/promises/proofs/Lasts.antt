@@ -2,7 +2,7 @@
 use Rattle.std.proofs.Common.{◌≡◌, ℕ, ◌-◌, ◌≤◌, Bool, true, false, cond, eqb, List, [], ◌∷◌, is_some, Some, None, Ok, Err, All, Contains, filter, Option, Result, sym, refl, ap, ◌∙◌, subst, ap₂, arith}
 use Rattle.std.specs.Option.{option_map}
 use Rattle.std.specs.Str.{bytes_eq}
-use Rattle.std.proofs.lemmas.List.Elements.{All-contains, All-weaker, Contains-append_right}
+use Rattle.std.proofs.lemmas.List.Elements.{All-contains, All-weaker, Contains-append_right, All-nil, All-cons}
 use Rattle.std.proofs.lemmas.Bool.{both_ways}
 use Rattle.octets.specs.Classes.{Bytes}
 use Rattle.layout.specs.declared.pair.Pair.{Pair}
@@ -178,12 +178,12 @@ rejected_leave_nothing holds b x y p q hx hy day only =
 
 module _ {X : Type 0} (test : X → Bool) where
   pub kept_has : (xs : List X) → All (λ y. test y ≡ true → Contains (filter test xs) y) xs
-  kept_has [] = tt
-  kept_has (x ∷ xs) = go (test x) refl (kept_has xs)
+  kept_has [] = All-nil (λ y. test y ≡ true → Contains [] y)
+  kept_has (x ∷ xs) = let k = go (test x) refl (kept_has xs) in All-cons (λ y. test y ≡ true → Contains (filter test (x ∷ xs)) y) x xs k.0 k.1
     where
       go : (v : Bool) → test x ≡ v → All (λ y. test y ≡ true → Contains (filter test xs) y) xs
           → (test x ≡ true → Contains (cond v (x ∷ filter test xs) (filter test xs)) x) × All (λ y. test y ≡ true → Contains (cond v (x ∷ filter test xs) (filter test xs)) y) xs
-      go true e h = ((λ _. (0, omega arith, λ d. refl)), All-weaker (λ y. test y ≡ true → Contains (filter test xs) y) (λ y. test y ≡ true → Contains (x ∷ filter test xs) y) (λ y k s. Contains-append_right (x ∷ []) (filter test xs) y (k s)) xs h)
+      go true e h = ((λ _. (0, omega arith, refl)), All-weaker (λ y. test y ≡ true → Contains (filter test xs) y) (λ y. test y ≡ true → Contains (x ∷ filter test xs) y) (λ y k s. Contains-append_right (x ∷ []) (filter test xs) y (k s)) xs h)
       go false e h = ((λ s. absurd (both_ways (test x) e s)), h)
 
 pub never_pass_total : NeverPassTotal
@@ -194,7 +194,7 @@ never_pass_total holds e l m cs p t has own =
     go (show_answer (run holds (empty_book e l m) cs) p) ((show_tells holds e l m cs).shown p) mine
   where
     one : (u : Acceptance) → Contains (u ∷ []) t → t ≡ u
-    one u h = All-contains (λ z. z ≡ u) (u ∷ []) t (refl, tt) h
+    one u h = All-contains (λ z. z ≡ u) (u ∷ []) t (All-cons (λ z. z ≡ u) u [] refl (All-nil (λ z. z ≡ u))) h
 
     go : (x : Option EntryTold) → Shown p (accepted_in holds (empty_book e l m) cs) x → Contains (owners p (accepted_in holds (empty_book e l m) cs)) t → adjusted p (accepted_in holds (empty_book e l m) cs) ≤ total_of t.what
     go None s h = let k = subst (λ ys. Contains ys t) s h in let z = k.1 in absurd (omega arith)

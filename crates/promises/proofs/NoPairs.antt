@@ -1,7 +1,7 @@
 -- A transaction's pairs by its verdict.
-use Rattle.std.proofs.Common.{◌≡◌, ℕ, ◌+◌, ◌≤◌, Bool, true, false, cond, List, [], ◌∷◌, ◌++◌, map, length, is_some, Some, None, All, Option, sym, refl, ap, ◌∙◌, subst, arith}
+use Rattle.std.proofs.Common.{◌≡◌, ℕ, eqb, ◌+◌, ◌≤◌, Bool, true, false, cond, List, [], ◌∷◌, ◌++◌, map, length, is_some, Some, None, All, Option, sym, refl, ap, ◌∙◌, subst, arith}
 use Rattle.std.specs.List.{flat_map}
-use Rattle.std.proofs.lemmas.List.Elements.{All-append}
+use Rattle.std.proofs.lemmas.List.Elements.{All-append, All-nil, All-head, All-tail, All-cons, All-from_recursion}
 use Rattle.std.proofs.lemmas.Bool.{both_ways}
 use Rattle.std.proofs.lemmas.Bool.Decides.{nat_tests}
 use Rattle.octets.specs.Classes.{Bytes}
@@ -10,7 +10,7 @@ use Rattle.layout.specs.declared.field.Field.{Field}
 use Rattle.layout.specs.declared.set_id.SetId.{SetId}
 use Rattle.layout.specs.declared.set_id.SetId.TheVariants.{Payment, Collection, ReceiverAdjustment, SenderAdjustment, ZeroDollar, PostSgl}
 use Rattle.layout.specs.Companions.{companions_of}
-use Rattle.layout.specs.Layouts.{header_of, fields_of}
+use Rattle.layout.specs.Layouts.{header_of, fields_of, width_of}
 use Rattle.layout.specs.SetIds.{set_id_in}
 use Rattle.file.specs.Records.{first_of, others_of}
 use Rattle.transaction.specs.declared.header.Transaction.{Transaction}
@@ -39,25 +39,25 @@ Outcome (Refused c r k) = refuses_header (Refused c r k) ≡ true
 
 refuses_verdict : (cs : List Check) → All Refuses cs → Outcome (verdict cs)
 refuses_verdict [] h = tt
-refuses_verdict (c ∷ cs) h = go c.passes refl (refuses_verdict cs h.1)
+refuses_verdict (c ∷ cs) h = go c.passes refl (refuses_verdict cs (All-tail Refuses c cs h))
   where
     go : (v : Bool) → c.passes ≡ v → Outcome (verdict cs) → Outcome (cond v (verdict cs) (refusal c))
     go true e k = k
-    go false e k = h.0 e
+    go false e k = All-head Refuses c cs h e
 
 any_field : (xs : List Field) → All (λ f. Unit {0}) xs
-any_field [] = tt
-any_field (x ∷ xs) = (tt, any_field xs)
+any_field [] = All-nil (λ f. Unit {0})
+any_field (x ∷ xs) = All-cons (λ f. Unit {0}) x xs tt (any_field xs)
 
 header_refuses : (holds : Holds) (h : Bytes) (l : Layout) → companions_of l ≡ [] → product_passes l h ≡ true → All Refuses (checks_under holds 0 h l)
 header_refuses holds h l none product =
     let F = flat_map (field_checks holds 0 h) (fields_of l) in
     let K = map (companion_check 0 h) (companions_of l) in
     let last = check (product_passes l h) 34 0 30 in
-    let a = all_joined Refuses (field_checks holds 0 h) (λ f. Unit {0}) (λ f _. ((λ _. refl), ((λ _. refl), ((λ _. refl), tt)))) (fields_of l) (any_field (fields_of l)) in
-    let c : All Refuses K = subst (λ cs. All Refuses (map (companion_check 0 h) cs)) (sym none) tt in
-    let d : All Refuses (last ∷ []) = ((λ e. absurd (both_ways (product_passes l h) e product)), tt) in
-    ((λ _. refl), All-append Refuses F (K ++ last ∷ []) a (All-append Refuses K (last ∷ []) c d))
+    let a = all_joined Refuses (field_checks holds 0 h) (λ f. Unit {0}) (λ f _. All-from_recursion Refuses (field_checks holds 0 h f) ((λ _. refl), ((λ _. refl), ((λ _. refl), tt)))) (fields_of l) (any_field (fields_of l)) in
+    let c : All Refuses K = subst (λ cs. All Refuses (map (companion_check 0 h) cs)) (sym none) (All-nil Refuses) in
+    let d : All Refuses (last ∷ []) = All-from_recursion Refuses (last ∷ []) ((λ e. absurd (both_ways (product_passes l h) e product)), tt) in
+    All-cons Refuses (check (eqb (length h) (width_of l)) 32 0 1) (F ++ (K ++ last ∷ [])) (λ _. refl) (All-append Refuses F (K ++ last ∷ []) a (All-append Refuses K (last ∷ []) c d))
 
 set_refuses : (holds : Holds) (h : Bytes) (set : SetId) → All Refuses (checks_under holds 0 h (header_of set))
 set_refuses holds h Payment = header_refuses holds h (header_of Payment) refl refl
@@ -80,11 +80,11 @@ of_whole c m k e = grind (arith, nat_tests)
 
 spares_verdict : (cs : List Check) → All (Says Spares) cs → refuses_header (verdict cs) ≡ false
 spares_verdict [] h = refl
-spares_verdict (c ∷ cs) h = go c.passes (spares_verdict cs h.1)
+spares_verdict (c ∷ cs) h = go c.passes (spares_verdict cs (All-tail (Says Spares) c cs h))
   where
     go : (v : Bool) → refuses_header (verdict cs) ≡ false → refuses_header (cond v (verdict cs) (refusal c)) ≡ false
     go true k = k
-    go false k = h.0
+    go false k = All-head (Says Spares) c cs h
 
 -- ---- both together
 

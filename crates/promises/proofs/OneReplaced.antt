@@ -1,7 +1,7 @@
 -- One transaction of a file replaced, from the bytes to the packets.
 use Rattle.std.proofs.Common.{◌≡◌, ℕ, zero, suc, ◌+◌, Bool, true, false, cond, ◌⊎◌, List, [], ◌∷◌, ◌++◌, map, length, Some, None, Ok, Err, All, Option, Result, sym, refl, ap, ◌∙◌, subst, inr, arith}
 use Rattle.std.specs.List.{slice_get}
-use Rattle.std.proofs.lemmas.List.Elements.{All-weaker}
+use Rattle.std.proofs.lemmas.List.Elements.{All-weaker, All-head, All-tail}
 use Rattle.octets.specs.Classes.{Bytes}
 use Rattle.layout.specs.declared.pair.Pair.{Pair}
 use Rattle.file.specs.declared.opening.Opening.{Opening}
@@ -128,10 +128,10 @@ post_leaves_unlinked holds b file file' day room room' r group ours divided enou
 nth_others : {X : Type 0} (P : X → Type 0) (xs : List X) (y : X) (ys : List X) (k : ℕ) (x : X) → All P xs → All P ys → (k ≡ length xs → ⊥) → slice_get (xs ++ y ∷ ys) k ≡ Some x → P x
 nth_others P [] y ys zero x h l other e = absurd (other refl)
 nth_others P [] y [] (suc k) x h l other e = absurd (none_is x e)
-nth_others P [] y (z ∷ ys) (suc zero) x h l other e = subst P (some_is z x e) l.0
-nth_others P [] y (z ∷ ys) (suc (suc k)) x h l other e = nth_others P [] z ys (suc k) x h l.1 (λ s. omega arith) e
-nth_others P (z ∷ xs) y ys zero x h l other e = subst P (some_is z x e) h.0
-nth_others P (z ∷ xs) y ys (suc k) x h l other e = nth_others P xs y ys k x h.1 l (λ s. other (ap suc s)) e
+nth_others P [] y (z ∷ ys) (suc zero) x h l other e = subst P (some_is z x e) (All-head P z ys l)
+nth_others P [] y (z ∷ ys) (suc (suc k)) x h l other e = nth_others P [] z ys (suc k) x h (All-tail P z ys l) (λ s. omega arith) e
+nth_others P (z ∷ xs) y ys zero x h l other e = subst P (some_is z x e) (All-head P z xs h)
+nth_others P (z ∷ xs) y ys (suc k) x h l other e = nth_others P xs y ys k x (All-tail P z xs h) l (λ s. other (ap suc s)) e
 
 pub post_leaves_others : PostLeavesOthers
 post_leaves_others holds b file file' day room room' r apart enough enough' p q hp hq k other =

@@ -149,12 +149,12 @@ lines_swap l m apart ls =
     place_swap line_first
     (λ a b c h k. lex_trans Pair ℕ same_pair before_pair eqb ltb by_pairs numbers same_pair_is same_pair_self a.pair a.number b.pair b.number c.pair c.number h k)
     (λ a b h. lex_asym Pair ℕ same_pair before_pair eqb ltb by_pairs numbers same_pair_is same_pair_self a.pair a.number b.pair b.number h)
-    l m (⊎_elim (λ p. inl (or_left (before_pair l.pair m.pair) _ p)) (λ p. inr (or_left (before_pair m.pair l.pair) _ p)) (byPairs.total l.pair m.pair apart)) ls
+    l m (⊎_elim (λ p. inl (or_left (before_pair l.pair m.pair) _ p)) (λ p. inr (or_left (before_pair m.pair l.pair) _ p)) (by_pairs.total l.pair m.pair apart)) ls
 
 pub entries_swap : (e f : EntryHeld) → same_pair e.pair f.pair ≡ false → (es : List EntryHeld) → place entry_first e (place entry_first f es) ≡ place entry_first f (place entry_first e es)
 entries_swap e f apart es =
-    place_swap entry_first (λ a b c h k. byPairs.trans a.pair b.pair c.pair h k) (λ a b h. byPairs.asym a.pair b.pair h) e f (byPairs.total e.pair f.pair apart) es
+    place_swap entry_first (λ a b c h k. by_pairs.trans a.pair b.pair c.pair h k) (λ a b h. by_pairs.asym a.pair b.pair h) e f (by_pairs.total e.pair f.pair apart) es
 
 pub marks_swap : (m n : MarkHeld) → bytes_eq m.file n.file ≡ false → (ms : List MarkHeld) → place mark_first m (place mark_first n ms) ≡ place mark_first n (place mark_first m ms)
 marks_swap m n apart ms =
-    place_swap mark_first (λ a b c h k. byBytes.trans a.file b.file c.file h k) (λ a b h. byBytes.asym a.file b.file h) m n (byBytes.total m.file n.file apart) ms
+    place_swap mark_first (λ a b c h k. by_bytes.trans a.file b.file c.file h k) (λ a b h. by_bytes.asym a.file b.file h) m n (by_bytes.total m.file n.file apart) ms

@@ -1,5 +1,6 @@
 -- What is read from a packet is what was said.
 use Rattle.std.proofs.Common.{◌≡◌, ℕ, zero, suc, ◌+◌, ◌-◌, ◌*◌, ◌/◌, ◌%◌, ◌^◌, ◌<◌, ◌≤◌, Bool, true, false, cond, not, eqb, ltb, leb, List, [], ◌∷◌, map, length, take, drop, Ok, Err, All, Result, sym, refl, ap, ◌∙◌, subst, ap₂, mul-le-mul_right, pow-suc, arith}
+use Rattle.std.proofs.lemmas.List.Elements.{All-nil, All-head, All-cons, All-tail}
 use native.Mathlib.Nat.{pow-le-pow_right}
 use Rattle.std.proofs.lemmas.List.{take_at, drop_at, length-drop}
 use Rattle.std.proofs.lemmas.Bool.{ne_eqb, ltb-false, and_parts, leb-true}
@@ -61,8 +62,8 @@ verdicts_back : (n : ℕ) (vs : List Verdict) → All VerdictFits vs → verdict
 verdicts_back n [] h = refl
 verdicts_back n (v ∷ vs) h =
     ap₂ (λ x y. x ∷ y)
-    (ap verdict_from (take_at (verdict_item n v) (verdict_items (suc n) vs) 16 (sixteen n v)) ∙ verdict_back n v h.0)
-    (ap (verdicts_from (length vs)) (drop_at (verdict_item n v) (verdict_items (suc n) vs) 16 (sixteen n v)) ∙ verdicts_back (suc n) vs h.1)
+    (ap verdict_from (take_at (verdict_item n v) (verdict_items (suc n) vs) 16 (sixteen n v)) ∙ verdict_back n v (All-head VerdictFits v vs h))
+    (ap (verdicts_from (length vs)) (drop_at (verdict_item n v) (verdict_items (suc n) vs) 16 (sixteen n v)) ∙ verdicts_back (suc n) vs (All-tail VerdictFits v vs h))
 
 pub accepted_few : (vs : List Verdict) → accepted_count vs ≤ length vs
 accepted_few [] = omega arith
@@ -145,22 +146,26 @@ transactions_few (r ∷ rs) = go (is_header r) (transactions_few rs)
     go false h = omega arith
 
 each_short : (n : ℕ) (rs : List Bytes) → length rs ≤ n → All (λ t. length t ≤ n) (transactions rs)
-each_short n [] h = tt
+each_short n [] h = All-nil (λ t. length t ≤ n)
 each_short n (r ∷ rs) h = go (is_header r) (until_few rs) (each_short n rs (omega arith))
   where
     go : (v : Bool) → length (until_header rs) ≤ length rs → All (λ t. length t ≤ n) (transactions rs) → All (λ t. length t ≤ n) (cond v ((r ∷ until_header rs) ∷ transactions rs) (transactions rs))
-    go true l k = (omega arith, k)
+    go true l k = All-cons (λ t. length t ≤ n) (r ∷ until_header rs) (transactions rs) (omega arith) k
     go false l k = k
 
 -- ---- whole files
 
 posted_fit : (holds : Holds) (day : ℕ) (ts : List (List Bytes)) (b : BookMeaning) → All (λ t. length t ≤ 16777216) ts → All VerdictFits (verdicts holds b day ts)
-posted_fit holds day [] b h = tt
-posted_fit holds day (t ∷ ts) b h = (verdicts_fit holds b day t h.0, posted_fit holds day ts (entered holds b day t) h.1)
+posted_fit holds day [] b h = All-nil VerdictFits
+posted_fit holds day (t ∷ ts) b h = 
+    All-cons VerdictFits (judge holds b day t) (verdicts holds (entered holds b day t) day ts) (verdicts_fit holds b day t (All-head (λ t. length t ≤ 16777216) t ts h))
+    (posted_fit holds day ts (entered holds b day t) (All-tail (λ t. length t ≤ 16777216) t ts h))
 
 checked_fit : (holds : Holds) (day : ℕ) (b : BookMeaning) (ts : List (List Bytes)) → All (λ t. length t ≤ 16777216) ts → All VerdictFits (map (judge holds b day) ts)
-checked_fit holds day b [] h = tt
-checked_fit holds day b (t ∷ ts) h = (verdicts_fit holds b day t h.0, checked_fit holds day b ts h.1)
+checked_fit holds day b [] h = All-nil VerdictFits
+checked_fit holds day b (t ∷ ts) h = 
+    All-cons VerdictFits (judge holds b day t) (map (judge holds b day) ts) (verdicts_fit holds b day t (All-head (λ t. length t ≤ 16777216) t ts h))
+    (checked_fit holds day b ts (All-tail (λ t. length t ≤ 16777216) t ts h))
 
 length_checked : (f : List Bytes → Verdict) (ts : List (List Bytes)) → length (map f ts) ≡ length ts
 length_checked f [] = refl

@@ -1,7 +1,7 @@
 -- One transaction of a list replaced: the others get the same verdicts.
 use Rattle.std.proofs.Common.{◌≡◌, ℕ, zero, suc, ◌+◌, ◌-◌, ◌≤◌, List, [], ◌∷◌, ◌++◌, map, length, sym, refl, ap, ◌∙◌, arith}
 use Rattle.std.specs.List.{slice_get}
-use Rattle.std.proofs.lemmas.List.{map-append, length-append, length_map}
+use Rattle.std.proofs.lemmas.List.{map-append, length-append, length-map}
 use Rattle.octets.specs.Classes.{Bytes}
 use Rattle.file.specs.Records.{is_detail, many}
 use Rattle.book.specs.Meaning.{BookMeaning, free_entries, free_lines}
@@ -47,5 +47,5 @@ module _ (holds : Holds) (day : ℕ) where
     pub checked_alike : OthersAlike (length before) (map (judge holds b day) (before ++ old ∷ later)) (map (judge holds b day) (before ++ fresh ∷ later))
     checked_alike k other =
         ap (λ ws. slice_get ws k) (map-append (judge holds b day) before (old ∷ later))
-        ∙ others_alike (map (judge holds b day) before) (judge holds b day old) (judge holds b day fresh) (map (judge holds b day) later) k (λ e. other (e ∙ length_map before (judge holds b day)))
+        ∙ others_alike (map (judge holds b day) before) (judge holds b day old) (judge holds b day fresh) (map (judge holds b day) later) k (λ e. other (e ∙ length-map before (judge holds b day)))
         ∙ sym (ap (λ ws. slice_get ws k) (map-append (judge holds b day) before (fresh ∷ later)))

@@ -2,7 +2,7 @@
 use Rattle.std.proofs.Common.{◌≡◌, ℕ, ◌+◌, Bool, true, false, List, [], ◌∷◌, ◌++◌, length, Some, None, Ok, Err, All, Contains, Option, Result, sym, refl, ap, ◌∙◌, subst, ap₂, arith}
 use Rattle.std.specs.List.{flat_map}
 use Rattle.std.specs.Str.{bytes_eq}
-use Rattle.std.proofs.lemmas.List.Elements.{Contains-append_left, Contains-append_right}
+use Rattle.std.proofs.lemmas.List.Elements.{Contains-append_left, Contains-append_right, All-nil, All-head, All-cons, All-tail}
 use Rattle.octets.specs.Classes.{Bytes}
 use Rattle.layout.specs.declared.pair.Pair.{Pair}
 use Rattle.file.specs.declared.opening.Opening.{Opening}
@@ -105,16 +105,13 @@ module _ (holds : Holds) where
   jointly ts = flat_map (pairs_in holds) ts
 
   apart_one : (t : List Bytes) (us : List (List Bytes)) → ((p : Pair) → Contains (pairs_in holds t) p → Contains (jointly us) p → ⊥) → All (Apart holds t) us
-  apart_one t [] h = tt
-  apart_one t (u ∷ us) h = (
-    all_has (λ q. All (λ p. same_pair p q ≡ false) (pairs_in holds t)) (pairs_in holds u) (λ q k. all_has (λ p. same_pair p q ≡ false) (pairs_in holds t) (λ p j. not_same p q (λ e. h q (rw e at j) (Contains-append_left (pairs_in holds u) (jointly us) q k)))),
-    apart_one t us (λ p j k. h p j (Contains-append_right (pairs_in holds u) (jointly us) p k)),
-  )
+  apart_one t [] h = All-nil (Apart holds t)
+  apart_one t (u ∷ us) h = All-cons (Apart holds t) u us (all_has (λ q. All (λ p. same_pair p q ≡ false) (pairs_in holds t)) (pairs_in holds u) (λ q k. all_has (λ p. same_pair p q ≡ false) (pairs_in holds t) (λ p j. not_same p q (λ e. h q (rw e at j) (Contains-append_left (pairs_in holds u) (jointly us) q k))))) (apart_one t us (λ p j k. h p j (Contains-append_right (pairs_in holds u) (jointly us) p k)))
 
   apart_all : (ts us : List (List Bytes)) → ((p : Pair) → Contains (jointly ts) p → Contains (jointly us) p → ⊥) → All (λ t. All (Apart holds t) us) ts
-  apart_all [] us h = tt
+  apart_all [] us h = All-nil (λ t. All (Apart holds t) us)
   apart_all (t ∷ ts) us h =
-      (apart_one t us (λ p j k. h p (Contains-append_left (pairs_in holds t) (jointly ts) p j) k), apart_all ts us (λ p j k. h p (Contains-append_right (pairs_in holds t) (jointly ts) p j) k))
+      All-cons (λ t. All (Apart holds t) us) t ts (apart_one t us (λ p j k. h p (Contains-append_left (pairs_in holds t) (jointly ts) p j) k)) (apart_all ts us (λ p j k. h p (Contains-append_right (pairs_in holds t) (jointly ts) p j) k))
 
   not_named : (i j : Bytes) → (i ≡ j → ⊥) → bytes_eq i j ≡ false
   not_named i j h = go (bytes_eq i j) refl
@@ -179,7 +176,7 @@ module _ (holds : Holds) where
 
   pub run_none : (cs : List Call) (b : BookMeaning) → All IsNoPost cs → run holds b cs ≡ b
   run_none [] b h = refl
-  run_none (c ∷ cs) b h = ap (λ x. run holds x cs) (called_none b c h.0) ∙ run_none cs b h.1
+  run_none (c ∷ cs) b h = ap (λ x. run holds x cs) (called_none b c (All-head IsNoPost c cs h)) ∙ run_none cs b (All-tail IsNoPost c cs h)
 
   pub run_append : (cs ds : List Call) (b : BookMeaning) → run holds b (cs ++ ds) ≡ run holds (run holds b cs) ds
   run_append [] ds b = refl

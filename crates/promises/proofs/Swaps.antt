@@ -1,5 +1,6 @@
 -- Transactions of which neither has a pair of the other, entered in either order: the same book.
 use Rattle.std.proofs.Common.{◌≡◌, ℕ, suc, ◌+◌, ◌-◌, ◌≤◌, false, List, [], ◌∷◌, ◌++◌, length, Some, None, All, Option, sym, refl, ap, ◌∙◌, subst, ap₂, arith}
+use Rattle.std.proofs.lemmas.List.Elements.{All-nil, All-head, All-tail, All-cons}
 use Rattle.octets.specs.Classes.{Bytes}
 use Rattle.layout.specs.declared.pair.Pair.{Pair}
 use Rattle.layout.specs.declared.set_id.SetId.{SetId}
@@ -37,19 +38,22 @@ lines_two p q s u ds (e ∷ es) j k ls apart =
 abbrev pub Clear : List Pair → List Pair → Type 0
 Clear ps qs = All (λ q. All (λ p. same_pair p q ≡ false) ps) qs
 
+clear_one : (p q : Pair) → Clear (p ∷ []) (q ∷ []) → same_pair p q ≡ false
+clear_one p q h = All-head (λ p. same_pair p q ≡ false) p [] (All-head (λ q. All (λ p. same_pair p q ≡ false) (p ∷ [])) q [] h)
+
 own_own : (d e : ℕ) (t u : Transaction) (ds es : List DetailRead) (o w : Option Pair) (b : BookMeaning) → Clear (listed o) (listed w) → put_own d t ds o (put_own e u es w b) ≡ put_own e u es w (put_own d t ds o b)
 own_own d e t u ds es None w b h = refl
 own_own d e t u ds es (Some p) None b h = refl
 own_own d e t u ds es (Some p) (Some q) b h =
-    let x = entries_swap (fresh p (entry_of d t)) (fresh q (entry_of e u)) h.0.0 b.entries in
-    let y = lines_two p q (set_id_of t) (set_id_of u) (lines_of t ds) (lines_of u es) 1 1 b.lines h.0.0 in
+    let x = entries_swap (fresh p (entry_of d t)) (fresh q (entry_of e u)) (clear_one p q h) b.entries in
+    let y = lines_two p q (set_id_of t) (set_id_of u) (lines_of t ds) (lines_of u es) 1 1 b.lines (clear_one p q h) in
     λ i. record { entries = x i; lines = y i; marks = b.marks; entry_places = b.entry_places; line_places = b.line_places; mark_places = b.mark_places }
 
 take_own : (n e : ℕ) (u : Transaction) (es : List DetailRead) (o w : Option Pair) (b : BookMeaning) → Clear (listed o) (listed w) → take_at n o (put_own e u es w b) ≡ put_own e u es w (take_at n o b)
 take_own n e u es None w b h = refl
 take_own n e u es (Some p) None b h = refl
 take_own n e u es (Some p) (Some q) b h =
-    let off : same_pair q p ≡ false = same_pair_flip q p ∙ h.0.0 in
+    let off : same_pair q p ≡ false = same_pair_flip q p ∙ clear_one p q h in
     let x = change_other entry_first (under p) (less n) (λ a c. refl) (fresh q (entry_of e u)) b.entries off in
     λ i. record { entries = x i; lines = lines_put q (set_id_of u) 1 (lines_of u es) b.lines; marks = b.marks; entry_places = b.entry_places; line_places = b.line_places; mark_places = b.mark_places }
 
@@ -57,12 +61,12 @@ take_take : (n m : ℕ) (o w : Option Pair) (b : BookMeaning) → Clear (listed 
 take_take n m None w b h = refl
 take_take n m (Some p) None b h = refl
 take_take n m (Some p) (Some q) b h =
-    let x = change_two (under p) (under q) (less n) (less m) (λ a. refl) (λ a. refl) (λ a t. rw (same_pair_is a.pair p t) h.0.0) b.entries in
+    let x = change_two (under p) (under q) (less n) (less m) (λ a. refl) (λ a. refl) (λ a t. rw (same_pair_is a.pair p t) (clear_one p q h)) b.entries in
     λ i. record { entries = x i; lines = b.lines; marks = b.marks; entry_places = b.entry_places; line_places = b.line_places; mark_places = b.mark_places }
 
 all_map : {X : Type 0} (P Q : X → Type 0) → ((x : X) → P x → Q x) → (xs : List X) → All P xs → All Q xs
-all_map P Q f [] h = tt
-all_map P Q f (x ∷ xs) h = (f x h.0, all_map P Q f xs h.1)
+all_map P Q f [] h = All-nil Q
+all_map P Q f (x ∷ xs) h = All-cons Q x xs (f x (All-head P x xs h)) (all_map P Q f xs (All-tail P x xs h))
 
 clear_parts : (ps bs cs ds : List Pair) → Clear (ps ++ bs) (cs ++ ds) → Clear ps cs × Clear ps ds × Clear bs cs × Clear bs ds
 clear_parts ps bs cs ds h =
@@ -79,16 +83,20 @@ flip_all : (q : Pair) (ps : List Pair) → All (λ p. same_pair p q ≡ false) p
 flip_all q ps h = all_map (λ p. same_pair p q ≡ false) (λ p. same_pair q p ≡ false) (λ p e. same_pair_flip q p ∙ e) ps h
 
 clear_row : (p : Pair) (ps qs : List Pair) → All (λ q. same_pair p q ≡ false) qs → Clear ps qs → Clear (p ∷ ps) qs
-clear_row p ps [] h k = tt
-clear_row p ps (q ∷ qs) h k = ((h.0, k.0), clear_row p ps qs h.1 k.1)
+clear_row p ps [] h k = All-nil (λ q. All (λ p. same_pair p q ≡ false) (p ∷ ps))
+clear_row p ps (q ∷ qs) h k =
+    let apart : All (λ p. same_pair p q ≡ false) (p ∷ ps) = All-cons (λ p. same_pair p q ≡ false) p ps (All-head (λ q. same_pair p q ≡ false) q qs h) (All-head (λ q. All (λ p. same_pair p q ≡ false) ps) q qs k) in
+    All-cons (λ q. All (λ p. same_pair p q ≡ false) (p ∷ ps)) q qs apart (clear_row p ps qs (All-tail (λ q. same_pair p q ≡ false) q qs h) (All-tail (λ q. All (λ p. same_pair p q ≡ false) ps) q qs k))
 
 no_rows : (qs : List Pair) → Clear [] qs
-no_rows [] = tt
-no_rows (q ∷ qs) = (tt, no_rows qs)
+no_rows [] = All-nil (λ q. All (λ p. same_pair p q ≡ false) [])
+no_rows (q ∷ qs) = All-cons (λ q. All (λ p. same_pair p q ≡ false) []) q qs (All-nil (λ p. same_pair p q ≡ false)) (no_rows qs)
 
 clear_flip : (ps qs : List Pair) → Clear ps qs → Clear qs ps
 clear_flip ps [] h = no_rows ps
-clear_flip ps (q ∷ qs) h = clear_row q qs ps (flip_all q ps h.0) (clear_flip ps qs h.1)
+clear_flip ps (q ∷ qs) h =
+    clear_row q qs ps (flip_all q ps (All-head (λ q. All (λ p. same_pair p q ≡ false) ps) q qs h))
+    (clear_flip ps qs (All-tail (λ q. All (λ p. same_pair p q ≡ false) ps) q qs h))
 
 apply_swap : (b : BookMeaning) (d e : ℕ) (t u : Transaction) (ds es : List DetailRead) → Clear (listed (own_pair t) ++ listed (original_pair t)) (listed (own_pair u) ++ listed (original_pair u)) → apply d t ds (apply e u es b) ≡ apply e u es (apply d t ds b)
 apply_swap b d e t u ds es h =
@@ -146,14 +154,15 @@ module _ (holds : Holds) where
   one_past d e t (u ∷ us) b h r =
       let k = entered_used holds b e u in let ke = k.entries_used in let kl = k.lines_used in let kp = k.entry_places in let kq = k.line_places in
       let re = r.entries in let rl = r.lines in
+      let f = All-head (Apart t) u us h in
       ap (λ c. after holds c e us)
-      (entered_swap b d e t u h.0 (second b d e t u h.0 (record { entries = omega arith; lines = omega arith })) (second b e d u t (clear_flip (pairs_in holds t) (pairs_in holds u) h.0) (record { entries = omega arith; lines = omega arith })))
-      ∙ one_past d e t us (entered holds b e u) h.1 (record { entries = omega arith; lines = omega arith })
+      (entered_swap b d e t u f (second b d e t u f (record { entries = omega arith; lines = omega arith })) (second b e d u t (clear_flip (pairs_in holds t) (pairs_in holds u) f) (record { entries = omega arith; lines = omega arith })))
+      ∙ one_past d e t us (entered holds b e u) (All-tail (Apart t) u us h) (record { entries = omega arith; lines = omega arith })
 
   pub list_past : (d e : ℕ) (ts us : List (List Bytes)) (b : BookMeaning) → All (λ t. All (Apart t) us) ts → Both b ts us → after holds (after holds b d ts) e us ≡ after holds (after holds b e us) d ts
   list_past d e [] us b h r = refl
   list_past d e (t ∷ ts) us b h r =
       let k = entered_used holds b d t in let ke = k.entries_used in let kl = k.lines_used in let kp = k.entry_places in let kq = k.line_places in
       let re = r.entries in let rl = r.lines in
-      list_past d e ts us (entered holds b d t) h.1 (record { entries = omega arith; lines = omega arith })
-      ∙ ap (λ c. after holds c d ts) (one_past d e t us b h.0 (record { entries = omega arith; lines = omega arith }))
+      list_past d e ts us (entered holds b d t) (All-tail (λ t. All (Apart t) us) t ts h) (record { entries = omega arith; lines = omega arith })
+      ∙ ap (λ c. after holds c d ts) (one_past d e t us b (All-head (λ t. All (Apart t) us) t ts h) (record { entries = omega arith; lines = omega arith }))

@@ -1,7 +1,7 @@
 -- One transaction replaced: what no chain of shared pairs links to it keeps its verdict.
 use Rattle.std.proofs.Common.{◌≡◌, ℕ, zero, suc, ◌+◌, ◌-◌, ◌<◌, Bool, true, false, ◌⊎◌, List, [], ◌∷◌, ◌++◌, length, Some, All, sym, refl, ap, ◌∙◌, subst, ap₂, inl, inr, arith}
 use Rattle.std.specs.List.{slice_get}
-use Rattle.std.proofs.lemmas.List.Elements.{All-weaker}
+use Rattle.std.proofs.lemmas.List.Elements.{All-weaker, All-head, All-tail}
 use Rattle.std.proofs.lemmas.Bool.{both_ways, cases_order}
 use Rattle.octets.specs.Classes.{Bytes}
 use Rattle.layout.specs.declared.pair.Pair.{Pair}
@@ -44,7 +44,8 @@ module _ (holds : Holds) (day : ℕ) (group : Pair → Bool) where
   later [] b c alike h x y k out = refl
   later (u ∷ us) b c alike h x y zero out = ap Some (judge_alike holds Spared day b c u us us alike (out u refl) x y)
   later (u ∷ us) b c alike h x y (suc k) out =
-      later us (entered holds b day u) (entered holds c day u) (next_alike b c u us alike h.0 x y) h.1 (room_next holds Spared day b u us x) (room_next holds Spared day c u us y) k out
+      let split : List Bytes → Type 0 = λ t. Inside holds group t ⊎ Outside holds group t in
+      later us (entered holds b day u) (entered holds c day u) (next_alike b c u us alike (All-head split u us h) x y) (All-tail split u us h) (room_next holds Spared day b u us x) (room_next holds Spared day c u us y) k out
 
 -- in front, and behind as many as stand in front
 nth_front : (vs ws us : List Verdict) (k : ℕ) → k < length vs → slice_get (vs ++ ws) k ≡ slice_get (vs ++ us) k
