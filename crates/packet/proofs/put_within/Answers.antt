@@ -10,4 +10,4 @@ written_is a k xs ys bs e n =
     ap (λ l. put_mid a k xs l) e ∙ ap (λ l. take a xs ++ (bs ++ l)) (drop-drop k a xs ∙ ap (λ m. drop (a + m) xs) n)
 
 pub returns : goal.returns
-returns c = written_is _ _ c.args.buffer.now _ c.args.bytes.now c.copy-from-slice.ensures.after (omega arith)
+returns c = written_is _ _ c.args.buffer.now _ c.args.bytes.now c.copy_from_slice.ensures.after (omega arith)

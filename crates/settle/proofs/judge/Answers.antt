@@ -6,8 +6,8 @@ use Rattle.promises.specs.Judging.{all_checks}
 use Rattle.settle.proofs.Judging.{relied, judged_sound, judged_fault}
 use Rattle.settle.proofs.judge.Goals as goal
 
-pub check-against-requires : goal.check-against-requires
-check-against-requires g c =
+pub check_against-requires : goal.check_against-requires
+check_against-requires g c =
     let s = c.in-Ok.sound in
     relied (g.R.Registers.holds c.args.registers.now) (records c.args.text.now) s.transaction s.details s.body.now c.in-Ok.ensures.verdict c.in-Ok.ensures.reading
 
@@ -17,7 +17,7 @@ returns-in-Ok g c =
     let holds = g.R.Registers.holds c.args.registers.now in
     let b = g.B.Book.meaning c.args.book.now in
     let rs = records c.args.text.now in
-    let v = judged_sound holds rs s.transaction s.details s.body.now c.in-Ok.ensures.verdict c.in-Ok.ensures.reading b c.args.day c.verdict-of.result (c.verdict-of.ensures ∙ c.check-against.ensures) in
+    let v = judged_sound holds rs s.transaction s.details s.body.now c.in-Ok.ensures.verdict c.in-Ok.ensures.reading b c.args.day c.verdict_of.result (c.verdict_of.ensures ∙ c.check_against.ensures) in
     record { verdict = v; first = subst (Counts (all_checks holds b c.args.day rs)) (sym v) (first_counts (all_checks holds b c.args.day rs)) }
 
 pub returns-in-Err : goal.returns-in-Err

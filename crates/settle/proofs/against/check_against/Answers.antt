@@ -18,17 +18,17 @@ of_original b day t ds = checks_at b (original_pair t) (original_checks day t ds
 abbrev of_own : BookMeaning → Transaction → List DetailRead → List Check
 of_own b t ds = checks_at b (own_pair t) (own_pair_checks t ds) ++ place_checks b t ds (own_pair t)
 
-pub returns-in-err-check-any-original : goal.returns-in-err-check-any-original
-returns-in-err-check-any-original g c =
+pub returns-in_err-check_any_original : goal.returns-in_err-check_any_original
+returns-in_err-check_any_original g c =
     let b = g.B.Book.meaning c.args.book.now in
     let t = c.args.sound.now.transaction in
     let ds = details_of (records c.args.sound.now.body.now) in
-    let p = err_from_is_err_and c.from-residual.result c.from-residual.ensures.1 in
-    rw (p.1, p.2) (stops (of_original b c.args.day t ds) (of_own b t ds) c.in-err-check-any-original.field-0.0 c.in-err-check-any-original.ensures)
+    let p = err_from_is_err_and c.from_residual.result c.from_residual.ensures.1 in
+    rw (p.1, p.2) (stops (of_original b c.args.day t ds) (of_own b t ds) c.in_err-check_any_original.field-0.0 c.in_err-check_any_original.ensures)
 
 pub returns : goal.returns
 returns g c =
     let b = g.B.Book.meaning c.args.book.now in
     let t = c.args.sound.now.transaction in
     let ds = details_of (records c.args.sound.now.body.now) in
-    goes_on (of_original b c.args.day t ds) (of_own b t ds) _ c.in-ok-check-any-original.ensures c.check-own.ensures
+    goes_on (of_original b c.args.day t ds) (of_own b t ds) _ c.in_ok-check_any_original.ensures c.check_own.ensures

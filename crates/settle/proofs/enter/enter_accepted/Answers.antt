@@ -10,6 +10,6 @@ use Rattle.settle.proofs.enter.enter_accepted.Goals as goal
 pub returns : goal.returns
 returns g c =
     let t = c.args.sound.now.transaction in
-    c.take-from-original.ensures
-    ∙ ap (taking_at (total_of t) (taken_from t)) c.enter-own.ensures
+    c.take_from_original.ensures
+    ∙ ap (taking_at (total_of t) (taken_from t)) c.enter_own.ensures
     ∙ take_done (g.B.Book.meaning c.args.book.now) c.args.day t (details_of (records c.args.sound.now.body.now)) c.requires.accepted (taken_from t) refl

@@ -8,8 +8,8 @@ use Rattle.settle.specs.Entering.{Ready}
 use Rattle.settle.proofs.Entering.{only_first, next_ready}
 use Rattle.settle.proofs.enter.enter_details.Goals as goal
 
-pub enter-detail-requires : goal.enter-detail-requires
-enter-detail-requires g c =
+pub enter_detail-requires : goal.enter_detail-requires
+enter_detail-requires g c =
     let d = c.in-Some.detail in
     let t = c.next.new.self in
     let b = g.B.Book.meaning c.loop-detail.book in
@@ -30,12 +30,12 @@ loop-detail-preserved g c =
     let rest = details_from (suc t.read) (records t.records.rest.now) in
     let is = c.in-Some.ensures.steps in
     let k = add-one n in
-    let e : g.B.Book.meaning c.enter-detail.new.book ≡ enter_line (line_under p (suc n) (line_of set one)) b = c.enter-detail.ensures ∙ ap (λ m. enter_line (line_under p m (line_of set one)) b) k in
+    let e : g.B.Book.meaning c.enter_detail.new.book ≡ enter_line (line_under p (suc n) (line_of set one)) b = c.enter_detail.ensures ∙ ap (λ m. enter_line (line_under p m (line_of set one)) b) k in
     let r = next_ready b p set (suc n) one rest (subst (λ ds. Ready b p set (suc n) ds) is c.loop-detail.invariant.2) (line_under p (suc n) (line_of set one)) refl in (
       tt,
       tt,
-      subst (λ m. Ready (g.B.Book.meaning c.enter-detail.new.book) p set (suc m) rest) (sym k) (subst (λ x. Ready x p set (suc (suc n)) rest) (sym e) r),
-      ap (λ m. enter_lines p set (suc m) rest (g.B.Book.meaning c.enter-detail.new.book)) k
+      subst (λ m. Ready (g.B.Book.meaning c.enter_detail.new.book) p set (suc m) rest) (sym k) (subst (λ x. Ready x p set (suc (suc n)) rest) (sym e) r),
+      ap (λ m. enter_lines p set (suc m) rest (g.B.Book.meaning c.enter_detail.new.book)) k
           ∙ ap (enter_lines p set (suc (suc n)) rest) e
           ∙ ap (λ ds. enter_lines p set (suc n) ds b) (sym is)
           ∙ c.loop-detail.invariant.3,

@@ -14,13 +14,13 @@ loop-detail-preserved g c =
     let t = c.next.new.self in (
       tt,
       tt,
-      turn_on (detail_checks c.args.set (at (g.B.Book.meaning c.args.book.now) c.args.pair.now)) (read_as d.number d.«record».now d.entries) (details_from (suc s.read) (records s.records.rest.now)) (details_from (suc t.read) (records t.records.rest.now)) _ c.loop-detail.invariant.2 c.in-Some.ensures.steps c.in-ok-check-detail.ensures,
+      turn_on (detail_checks c.args.set (at (g.B.Book.meaning c.args.book.now) c.args.pair.now)) (read_as d.number d.«record».now d.entries) (details_from (suc s.read) (records s.records.rest.now)) (details_from (suc t.read) (records t.records.rest.now)) _ c.loop-detail.invariant.2 c.in-Some.ensures.steps c.in_ok-check_detail.ensures,
     )
 
-pub returns-in-err-check-detail : goal.returns-in-err-check-detail
-returns-in-err-check-detail g c =
+pub returns-in_err-check_detail : goal.returns-in_err-check_detail
+returns-in_err-check_detail g c =
     let d = c.in-Some.detail in
     let s = c.loop-detail.detail-iterator in
     let t = c.next.new.self in
-    let p = err_from_is_err_and c.from-residual.result c.from-residual.ensures.1 in
-    rw (p.1, p.2) (turn_stop (detail_checks c.args.set (at (g.B.Book.meaning c.args.book.now) c.args.pair.now)) (read_as d.number d.«record».now d.entries) (details_from (suc s.read) (records s.records.rest.now)) (details_from (suc t.read) (records t.records.rest.now)) _ c.loop-detail.invariant.2 c.in-Some.ensures.steps c.in-err-check-detail.field-0.0 c.in-err-check-detail.ensures)
+    let p = err_from_is_err_and c.from_residual.result c.from_residual.ensures.1 in
+    rw (p.1, p.2) (turn_stop (detail_checks c.args.set (at (g.B.Book.meaning c.args.book.now) c.args.pair.now)) (read_as d.number d.«record».now d.entries) (details_from (suc s.read) (records s.records.rest.now)) (details_from (suc t.read) (records t.records.rest.now)) _ c.loop-detail.invariant.2 c.in-Some.ensures.steps c.in_err-check_detail.field-0.0 c.in_err-check_detail.ensures)
