@@ -16,8 +16,8 @@ loop-text-init g c =
     let out = c.args.packet.now in
     let ts = transactions_of c.args.handed.now.file.now in
     let vs = verdicts holds b day ts in
-    let same : transactions (records c.into-iter-text-iterator.result.rest.now) ≡ ts =
-    ap (λ i. transactions (records i.rest.now)) c.into-iter-text-iterator.ensures.into-iter-gives ∙ ap (λ t. transactions (records t)) c.of-text-items.ensures ∙ ap transactions c.body.ensures in
+    let same : transactions (records c.into_iter-text-iterator.result.rest.now) ≡ ts =
+    ap (λ i. transactions (records i.rest.now)) c.into_iter-text-iterator.ensures.into_iter_gives ∙ ap (λ t. transactions (records t)) c.of-text-items.ensures ∙ ap transactions c.body.ensures in
     let room : packet_length (length vs) ≤ length out = subst (λ n. packet_length n ≤ length out) (sym (length_verdicts holds day ts b)) c.requires in (
       tt,
       tt,

@@ -8,5 +8,5 @@ returns c =
     let a = c.args.admitted.now in
     record {
       length = search rules;
-      packet = put_in c.args.packet.now c.put.new.buffer (file_item a.opening.stated a.found.records a.found.transactions c.args.accepted) c.file-item-item.result 0 c.put.ensures.after c.file-item-item.ensures (omega arith);
+      packet = put_in c.args.packet.now c.put.new.buffer (file_item a.opening.stated a.found.records a.found.transactions c.args.accepted) c.file_item-item.result 0 c.put.ensures.after c.file_item-item.ensures (omega arith);
     }
