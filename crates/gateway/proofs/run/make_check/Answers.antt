@@ -13,12 +13,12 @@ returns g c =
     let holds = g.R.Registers.holds c.args.registers.now in
     let b = g.B.Book.meaning c.args.book.now in
     let x = handed_over c.args.handed.now in
-    let slice = c.as-mut-slice.result.now in
+    let slice = c.as_mut_slice.result.now in
     let a = check_answer holds b (handed x.file x.day (length slice)) in
-    let long = c.as-mut-slice.ensures.len in
-    let room : length slice ≡ usable_room x = long ∙ c.in-ok-packet.ensures.len ∙ c.usable-room.ensures in
+    let long = c.as_mut_slice.ensures.len in
+    let room : length slice ≡ usable_room x = long ∙ c.in_ok-packet.ensures.len ∙ c.usable_room.ensures in
     let done = c.check-done.result in
     let out = c.check-done.new.packet in
-    c.answer-of.ensures
-    ∙ ap (λ bs. of_file (answer_in done bs)) (with_items_is c.in-ok-packet.packet out (c.check-done.auto.packet ∙ long))
+    c.answer_of.ensures
+    ∙ ap (λ bs. of_file (answer_in done bs)) (with_items_is c.in_ok-packet.packet out (c.check-done.auto.packet ∙ long))
     ∙ ap of_file (answer_is done a slice out c.check-done.ensures.answer c.check-done.ensures.packet ∙ ap (λ n. check_answer holds b (handed x.file x.day n)) room ∙ check_within x holds b)

@@ -12,8 +12,8 @@ loop-call-init g c =
       subst (λ vs. Made (g.R.Registers.holds c.args.registers.now) (g.B.Book.meaning c.args.book.now) (g.B.Book.meaning c.args.book.now) [] (replies vs)) (sym none) (record { answers = tt; book = refl }),
     )
 
-pub returns-then-is-err : goal.returns-then-is-err
-returns-then-is-err g c =
+pub returns-then-is_err : goal.returns-then-is_err
+returns-then-is_err g c =
     let k = told_cut _ _ _ _ _ _ _ _ c.loop-call.invariant.1 c.reserve.ensures.items refl c.loop-call.invariant.2 in
     record { answers = k.answers; book = k.book; promised = k.promised }
 
@@ -24,7 +24,7 @@ returns-in-Err g c =
 
 pub loop-call-preserved : goal.loop-call-preserved
 loop-call-preserved g c =
-    let e = c.push-reserved.ensures.items ∙ ap (λ xs. xs ++ c.in-Ok.answer ∷ []) c.reserve.ensures.items in (
+    let e = c.push_reserved.ensures.items ∙ ap (λ xs. xs ++ c.in-Ok.answer ∷ []) c.reserve.ensures.items in (
       omega arith,
       ap length e ∙ length_push _ _ ∙ ap (λ n. n + 1) c.loop-call.invariant.1,
       made_more _ _ _ _ _ _ _ _ _ _ c.loop-call-test.true c.loop-call.invariant.2 c.in-Ok.ensures e,
