@@ -1,6 +1,6 @@
 // A file of one transaction, and packet buffers that just suffice, do not, or are longer.
-use octets::class::is_same;
 use first_look::first_look;
+use octets::class::is_same;
 
 // Its Set ID is unknown.
 const FILE: &[u8] =

@@ -1,6 +1,6 @@
 // A payment's header alone. With good registers only its details are wanting: 41.
-use octets::class::is_same;
 use first_look::first_look;
+use octets::class::is_same;
 
 const FILE: &[u8] =
     b"PCA    \nBIPAC000000030000123420260105001\nH00001234000000000001000000567801234820REF00001  \n";

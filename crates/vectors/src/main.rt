@@ -1,7 +1,7 @@
 // Runs the files of an independent implementation through first look, and compares every answer and every byte of the buffer.
 use anyhow::Context;
-use octets::class::is_same;
 use first_look::first_look;
+use octets::class::is_same;
 use std::fs;
 
 // What a buffer holds before the call: what is behind the packet must stay.

@@ -8,14 +8,14 @@ use Rattle.look_files.proofs.look.Goals as goal
 
 pub returns : goal.returns
 returns c =
-    let bulk = c.first-bytes.result.now in
-    let t = texts c.first-bytes-2.result.now c.first-bytes-3.result.now c.first-bytes-4.result.now c.first-bytes-5.result.now c.first-bytes-6.result.now in
-    let slice = c.as-mut-slice.result.now in
-    let long = c.as-mut-slice.ensures.len in
-    let room : length slice ≡ 65536 = long ∙ c.in-ok-packet.ensures.len in
-    let number = c.first-look-number.result in
-    let out = c.first-look-number.new.packet in
-    c.output-of.ensures
-    ∙ ap (output_in number) (with_items_is c.in-ok-packet.packet out (c.first-look-number.auto.packet ∙ long))
-    ∙ look_output t (handed bulk 0 (length slice)) number slice out c.first-look-number.ensures.answer c.first-look-number.ensures.packet (omega (arith, room))
-    ∙ look_same t (registers_in c.args.files.now) bulk _ (length slice) 65536 c.first-bytes-2.ensures c.first-bytes-3.ensures c.first-bytes-4.ensures c.first-bytes-5.ensures c.first-bytes-6.ensures c.first-bytes.ensures room
+    let bulk = c.first_bytes.result.now in
+    let t = texts c.first_bytes-2.result.now c.first_bytes-3.result.now c.first_bytes-4.result.now c.first_bytes-5.result.now c.first_bytes-6.result.now in
+    let slice = c.as_mut_slice.result.now in
+    let long = c.as_mut_slice.ensures.len in
+    let room : length slice ≡ 65536 = long ∙ c.in_ok-packet.ensures.len in
+    let number = c.first_look-number.result in
+    let out = c.first_look-number.new.packet in
+    c.output_of.ensures
+    ∙ ap (output_in number) (with_items_is c.in_ok-packet.packet out (c.first_look-number.auto.packet ∙ long))
+    ∙ look_output t (handed bulk 0 (length slice)) number slice out c.first_look-number.ensures.answer c.first_look-number.ensures.packet (omega (arith, room))
+    ∙ look_same t (registers_in c.args.files.now) bulk _ (length slice) 65536 c.first_bytes-2.ensures c.first_bytes-3.ensures c.first_bytes-4.ensures c.first_bytes-5.ensures c.first_bytes-6.ensures c.first_bytes.ensures room
