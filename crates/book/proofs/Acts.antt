@@ -1,7 +1,7 @@
 -- What the actions and questions of a make do to its rows is what they do to the meaning. The rows of each table stand
 -- in the order of their keys: es, ls, ms, with ne, nl, nm places.
 -- Assumes nothing.
-use Rattle.std.proofs.Common.{◌≡◌, ℕ, ◌-◌, ◌^◌, ◌<◌, ◌≤◌, Bool, true, false, cond, ◌&&◌, ltb, leb, List, [], ◌∷◌, ◌++◌, map, length, take, drop, is_some, is_ok, Some, None, Ok, Err, Option, Result, sym, refl, ap, ◌∙◌, subst, true≢false, arith}
+use Rattle.std.proofs.Common.{◌≡◌, ℕ, ◌-◌, ◌^◌, ◌<◌, ◌≤◌, true, false, cond, ◌&&◌, ltb, leb, List, ◌++◌, map, length, take, drop, is_some, is_ok, Some, None, Ok, Err, Option, Result, sym, refl, ap, ◌∙◌, subst, true≢false, arith}
 use Rattle.std.specs.Option.{option_map}
 use Rattle.std.specs.Str.{bytes_eq}
 use Rattle.std.proofs.lemmas.Slice.Eq.{bytes_eq-Decides}
@@ -19,16 +19,15 @@ use Rattle.book.specs.declared.mark.Mark.{Mark}
 use Rattle.book.specs.declared.entry_row.EntryRow.{EntryRow}
 use Rattle.book.specs.declared.line_row.LineRow.{LineRow}
 use Rattle.book.specs.declared.mark_row.MarkRow.{MarkRow}
-use Rattle.book.specs.declared.fault.BookFault.{BookFault}
-use Rattle.book.specs.declared.fault.BookFault.TheVariants.{Held, Full, Absent, AboveOpen, CountTooLarge}
+use Rattle.book.specs.declared.fault.BookFault.TheVariants.{Absent, AboveOpen, CountTooLarge}
 use Rattle.book.specs.Faults.{as_book_fault}
-use Rattle.book.specs.Lists.{find, place}
-use Rattle.book.specs.Meaning.{EntryHeld, LineHeld, MarkHeld, BookMeaning, entry_at, line_at, mark_at, line_told, mark_told, fresh, line_under, mark_under, adjustable, seekable, under, under_line, under_mark, entry_first, line_first, mark_first}
+use Rattle.book.specs.Lists.{place}
+use Rattle.book.specs.Meaning.{BookMeaning, entry_at, line_at, mark_at, line_told, mark_told, fresh, line_under, mark_under, adjustable, seekable, under, under_line, under_mark, entry_first, line_first, mark_first}
 use Rattle.book.specs.Told.{EntryTold, entry_told, told, sought_told, SoughtAs, MaySeek}
 use Rattle.book.specs.Actions.{Answer, with_entries, with_lines, with_marks, less, take_open, set_mark, admits, entry_answer, line_answer, take_answer_at, take_answer, counts_fit, and_then, mark_answer, unless_refused, entering, entering_line, taking, marking}
 use Rattle.book.specs.Stands.{Stands, is_line_number, covered, numbered}
 use Rattle.book.specs.Rows.{pair_key, line_key, entry_of, line_of, mark_of, entry_code, line_code, mark_code, sound_entry, sound_line, sound_mark, less_row, rows_mean}
-use Rattle.book.proofs.Joins.{held_every, length_map, every_means, found, changed, admitted, placed, in_order_law}
+use Rattle.book.proofs.Joins.{length_map, every_means, found, changed, admitted, placed, in_order_law}
 use Rattle.book.proofs.Tables.{entry_test, entry_order, line_test, line_order, mark_test, mark_order}
 
 -- an action's answer r and the book b' afterwards are those defined

@@ -1,16 +1,14 @@
 -- Rows in the order of their keys, and what they mean: found, put in its place, changed, in order.
 -- Assumes nothing.
-use Rattle.std.proofs.Common.{◌≡◌, ℕ, zero, suc, ◌+◌, ◌-◌, ◌<◌, ◌≤◌, Bool, true, false, cond, ◌&&◌, eqb, ltb, List, [], ◌∷◌, ◌++◌, map, length, is_some, is_ok, Some, None, Ok, Err, sum_by, Option, Result, sym, refl, ap, ◌∙◌, subst, arith}
+use Rattle.std.proofs.Common.{◌≡◌, ℕ, suc, ◌+◌, ◌-◌, Bool, true, false, cond, ◌&&◌, eqb, ltb, List, [], ◌∷◌, map, length, is_some, Some, None, Ok, Err, sum_by, Option, sym, refl, ap, ◌∙◌, arith}
 use Rattle.std.specs.Option.{option_map}
 use Rattle.std.specs.Ordering.{is_lt, is_eq}
 use Rattle.std.proofs.lemmas.List.Sums.{sum_by-cons}
 use Rattle.std.proofs.lemmas.Bool.{and_parts, ltb-true, ltb-false, eq-eqb, ne_eqb}
 use Rattle.ordered.specs.Order.{ranks, every, leads, ascends, held, entered, altered, sorted, adds}
-use Rattle.ordered.specs.declared.refusal.Refusal.{Refusal}
 use Rattle.ordered.specs.declared.refusal.Refusal.TheVariants as table
 use Rattle.octets.specs.Classes.{Bytes}
-use Rattle.book.specs.declared.fault.BookFault.{BookFault}
-use Rattle.book.specs.declared.fault.BookFault.TheVariants.{Held, Full}
+use Rattle.book.specs.declared.fault.BookFault.TheVariants.{Full}
 use Rattle.book.specs.Faults.{as_book_fault}
 use Rattle.book.specs.Lists.{find, place, change, leads_by, ascending}
 use Rattle.book.specs.Actions.{admits}

@@ -1,7 +1,6 @@
 -- The four actions on a book: what each answers, and the book afterwards. Refused, an action leaves the book as it is.
 -- Assumes nothing.
-use Rattle.std.specs.Prelude.{ℕ, ◌-◌, Bool, true, false, cond, ◌&&◌, List, is_some, Some, None, Ok, Err, Option, Result, ◌==◌, nat_le}
-use Rattle.octets.specs.Classes.{Bytes}
+use Rattle.std.specs.Prelude.{ℕ, ◌-◌, Bool, cond, ◌&&◌, List, is_some, Some, None, Ok, Err, Option, Result, ◌==◌, nat_le}
 use Rattle.layout.specs.declared.pair.Pair.{Pair}
 use Rattle.book.specs.declared.fault.BookFault.{BookFault}
 use Rattle.book.specs.declared.fault.BookFault.TheVariants.{Held, Full, Absent, AboveOpen, CountTooLarge}

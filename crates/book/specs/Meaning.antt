@@ -1,7 +1,7 @@
 -- The meaning of a book: its entries by pair, its lines by pair and number, its marks by File ID Number, each kept in
 -- the order of its keys, and three capacities; and the questions asked of it.
 -- Assumes nothing.
-use Rattle.std.specs.Prelude.{◌≡◌, ℕ, ◌-◌, Bool, true, false, ◌&&◌, ◌||◌, List, [], length, Some, None, sum_by, Option, ◌==◌, nat_lt}
+use Rattle.std.specs.Prelude.{ℕ, ◌-◌, Bool, true, false, ◌&&◌, ◌||◌, List, [], length, sum_by, Option, ◌==◌, nat_lt}
 use Rattle.std.specs.Str.{bytes_eq}
 use Rattle.octets.specs.Classes.{Bytes}
 use Rattle.layout.specs.declared.set_id.SetId.{SetId}
@@ -12,7 +12,7 @@ use Rattle.book.specs.declared.line.Line.{Line}
 use Rattle.book.specs.declared.mark.Mark.{Mark}
 use Rattle.book.specs.declared.mark.Counts.{Counts}
 use Rattle.book.specs.declared.places.FreePlaces.{FreePlaces}
-use Rattle.book.specs.Lists.{before, find, place}
+use Rattle.book.specs.Lists.{before, find}
 
 -- what a book holds: an entry, a line, a mark
 pub record EntryHeld : Type 0 where

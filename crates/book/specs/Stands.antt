@@ -4,7 +4,7 @@
 use Rattle.std.specs.Prelude.{◌≡◌, ℕ, ◌≤◌, Bool, true, ◌&&◌, length, nat_le}
 use Rattle.ordered.specs.Order.{every}
 use Rattle.book.specs.Lists.{ascending}
-use Rattle.book.specs.Meaning.{EntryHeld, LineHeld, MarkHeld, BookMeaning, entry_first, line_first, mark_first}
+use Rattle.book.specs.Meaning.{EntryHeld, LineHeld, BookMeaning, entry_first, line_first, mark_first}
 use Rattle.book.specs.Actions.{counts_fit}
 
 abbrev pub covered : EntryHeld → Bool

@@ -1,4 +1,6 @@
 // The book of originals: what a book is, and what every make of it does.
+#![tactic(auto)]
+
 ghost use Rattle.std.specs.Prelude.{◌≡◌};
 ghost use Rattle.std.specs.Option.{option_map};
 ghost use Rattle.book.specs.Meaning.{BookMeaning, fresh, line_under, mark_under, entry_at, line_at, mark_at, line_told, mark_told, free_places, counted};

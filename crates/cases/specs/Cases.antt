@@ -1,10 +1,8 @@
 -- Worked cases, all of the same definitions: whole transactions from their bytes to their verdicts.
-use Rattle.std.specs.Prelude.{Bool, true, false, List, [], ◌∷◌, ◌++◌, ◌≡◌, ℕ, codes, length, replicate}
+use Rattle.std.specs.Prelude.{true, List, [], ◌∷◌, ◌++◌, ◌≡◌, ℕ, codes, length, replicate}
 use Rattle.octets.specs.Classes.{Bytes}
-use Rattle.layout.specs.declared.field.Lookup.{Lookup}
 use Rattle.layout.specs.declared.field.Lookup.TheVariants.{Free, Agencies, Offices, Symbols, Units, Accounts}
 use Rattle.register.specs.Maps.{bit_at, mapped, kept}
-use Rattle.book.specs.Meaning.{BookMeaning}
 use Rattle.transaction.specs.declared.verdict.Verdict.{Verdict}
 use Rattle.transaction.specs.declared.verdict.Verdict.TheVariants.{Accepted, Refused}
 use Rattle.transaction.specs.Checks.{Holds}

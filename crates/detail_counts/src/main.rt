@@ -1,4 +1,6 @@
 // How many details and E records a transaction may have: the limits, and far past them.
+#![tactic(auto)]
+
 ghost use Rattle.std.specs.Prelude.{true};
 
 use layout::field::Lookup;

@@ -11,7 +11,7 @@ use Rattle.register.specs.declared.fault.TextFault.TheVariants.{Order}
 use Rattle.register.specs.Faults as text
 use Rattle.register.specs.Keys.{is_in, key_check, listed}
 use Rattle.register.specs.Maps.{is_set, bit_at, mapped}
-use Rattle.field.specs.declared.fault.Cause.TheVariants.{Missing, Shape, Unknown}
+use Rattle.field.specs.declared.fault.Cause.TheVariants.{Shape}
 use Rattle.field.specs.declared.fault.FieldFault.{FieldFault}
 use Rattle.field.specs.Checks.{field_check}
 use Rattle.field.specs.Faults.{code_of}

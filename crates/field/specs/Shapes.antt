@@ -1,5 +1,5 @@
 -- What each kind of field asks of its bytes.
-use Rattle.std.specs.Prelude.{ℕ, Bool, true, false, not, ◌&&◌, ◌||◌, length, Some, None, Option, ◌==◌, slice_index}
+use Rattle.std.specs.Prelude.{Bool, true, false, not, ◌&&◌, ◌||◌, length, Some, None, Option, ◌==◌, slice_index}
 use Rattle.octets.specs.Classes.{Bytes, all, blank, is_zero, type_a, type_n}
 use Rattle.layout.specs.declared.field.Kind.{Kind}
 use Rattle.layout.specs.declared.field.Kind.TheVariants.{Text, Number, Positive, Filler, Symbol, OneOf, OneSet}

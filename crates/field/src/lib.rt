@@ -1,12 +1,14 @@
 // One field of a record judged: missing, of a wrong shape, or not in its register.
+#![tactic(auto)]
+
 ghost use Rattle.std.specs.Prelude.{◌≡◌};
 ghost use Rattle.field.specs.Checks.{field_check, refused};
 
 use crate::fault::{Cause, FieldFault};
 use crate::shape::{is_filler, is_shaped};
+use layout::field::Field;
 use octets::class::is_blank;
 use octets::line::Line;
-use layout::field::Field;
 use register::five::Registers;
 
 pub mod facts;

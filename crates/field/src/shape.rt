@@ -4,10 +4,10 @@ ghost use Rattle.layout.specs.SetIds.{set_id_of};
 ghost use Rattle.field.specs.Shapes.{is_filler, is_one_of, is_one_set, is_positive, shape};
 
 use crate::symbol::is_symbol;
-use octets::class::{Digit, Space, Zero, every};
-use octets::line::Line;
 use layout::field::Kind;
 use layout::set_id::SetId;
+use octets::class::{Digit, Space, Zero, every};
+use octets::line::Line;
 
 pub fn is_filler(kind: Kind) -> bool
     ensures { result ≡ is_filler kind }

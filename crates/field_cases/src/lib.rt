@@ -1,3 +1,5 @@
+#![tactic(auto)]
+
 // Tests of registers and fields, by values from the rules.
 #[cfg(test)]
 mod fields;

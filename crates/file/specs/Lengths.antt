@@ -1,5 +1,5 @@
 -- Where the first record and the first transaction of a text end, in bytes.
-use Rattle.std.specs.Prelude.{ℕ, suc, Bool, cond, ◌&&◌, List, [], ◌∷◌, ◌==◌}
+use Rattle.std.specs.Prelude.{ℕ, suc, cond, ◌&&◌, [], ◌∷◌, ◌==◌}
 use Rattle.octets.specs.Classes.{Bytes}
 use Rattle.file.specs.Records.{begins}
 

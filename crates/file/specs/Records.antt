@@ -1,5 +1,5 @@
 -- The records of a text, and the transactions that they make.
-use Rattle.std.specs.Prelude.{ℕ, ◌+◌, Bool, true, false, cond, List, [], ◌∷◌, drop, ◌==◌}
+use Rattle.std.specs.Prelude.{ℕ, ◌+◌, Bool, false, cond, List, [], ◌∷◌, drop, ◌==◌}
 use Rattle.octets.specs.Classes.{Bytes}
 
 -- a byte put before the first record

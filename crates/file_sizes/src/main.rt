@@ -1,4 +1,6 @@
 // What the opening says of a file of the greatest length, and of one that has a byte more.
+#![tactic(auto)]
+
 ghost use Rattle.std.specs.Prelude.{◌≡◌, IfOk, vec_len};
 
 use file::opening::Opening;

@@ -1,5 +1,5 @@
 -- From a file's gate to what is told of it.
-use Rattle.std.proofs.Common.{◌≡◌, ℕ, suc, ◌+◌, ◌*◌, ◌≤◌, Bool, true, false, cond, leb, List, [], ◌∷◌, ◌++◌, length, Ok, Err, Result, sym, refl, ap, ◌∙◌, subst, arith, length-append}
+use Rattle.std.proofs.Common.{◌≡◌, ℕ, ◌+◌, ◌≤◌, false, cond, List, length, Ok, Err, Result, sym, ap, ◌∙◌, subst, arith, length-append}
 use Rattle.std.proofs.lemmas.Bool.{ltb-false, le-leb}
 use Rattle.octets.specs.Classes.{Bytes}
 use Rattle.file.specs.declared.opening.Opening.{Opening}
@@ -11,13 +11,13 @@ use Rattle.calls.specs.declared.fault.FileFault.{FileFault}
 use Rattle.transaction.specs.declared.verdict.Verdict.{Verdict}
 use Rattle.packet.specs.Written.{written, written_if}
 use Rattle.book.specs.Meaning.{BookMeaning}
-use Rattle.promises.specs.Calls.{Handed, Answer, answer_with, too_small, check_gate, post_gate}
+use Rattle.promises.specs.Calls.{Handed, answer_with, too_small, check_gate, post_gate}
 use Rattle.promises.specs.Packets.{file_item, verdict_items, packet_of, packet_length, accepted_count}
 use Rattle.promises.proofs.Items.{packet_long}
 use Rattle.promises.proofs.OneReplaced.{check_opens}
 use Rattle.promises.proofs.ReadsBack.{post_room}
 use Rattle.filing.specs.declared.admit.Admitted.{Admitted}
-use Rattle.filing.specs.Admitting.{with_code, admitted_by}
+use Rattle.filing.specs.Admitting.{admitted_by}
 use Rattle.filing.specs.Filed.{length_of, packet_in}
 use Rattle.filing.proofs.Writes.{written_front}
 

@@ -1,5 +1,5 @@
 -- The verdicts that are left to write, in the middle of a file.
-use Rattle.std.proofs.Common.{◌≡◌, ℕ, suc, ◌+◌, ◌*◌, ◌≤◌, Bool, true, false, cond, List, [], ◌∷◌, ◌++◌, length, sym, refl, ap, ◌∙◌, subst, add-zero, add_assoc, arith}
+use Rattle.std.proofs.Common.{◌≡◌, ℕ, suc, ◌+◌, ◌*◌, ◌≤◌, Bool, true, false, cond, List, [], ◌∷◌, length, sym, refl, ap, ◌∙◌, add-zero, add_assoc, arith}
 use Rattle.octets.specs.Classes.{Bytes}
 use Rattle.transaction.specs.declared.verdict.Verdict.{Verdict}
 use Rattle.packet.specs.Written.{written}

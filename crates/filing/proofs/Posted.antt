@@ -1,5 +1,5 @@
 -- The book after a post: its accepted transactions entered, and its mark set.
-use Rattle.std.proofs.Common.{◌≡◌, ℕ, suc, ◌+◌, ◌-◌, ◌≤◌, Bool, true, false, cond, List, [], ◌∷◌, length, Ok, Err, sym, refl, ap, ◌∙◌, subst, ap₂, arith}
+use Rattle.std.proofs.Common.{◌≡◌, ℕ, suc, ◌+◌, ◌-◌, ◌≤◌, Bool, true, false, cond, List, [], ◌∷◌, length, Ok, Err, sym, refl, ap, ◌∙◌, ap₂, arith}
 use Rattle.file.specs.declared.tally.Found.{Found}
 use Rattle.file.specs.Counts.{found_in}
 use Rattle.file.specs.Records.{transactions_of}
@@ -7,7 +7,7 @@ use Rattle.book.specs.Actions.{marking}
 use Rattle.book.specs.Meaning.{BookMeaning, mark_under}
 use Rattle.transaction.specs.declared.verdict.Verdict.{Verdict}
 use Rattle.transaction.specs.Checks.{Holds}
-use Rattle.promises.specs.Calls.{Handed, post_gate, post_book_at, post_book, posted, counts_of}
+use Rattle.promises.specs.Calls.{Handed, post_gate, post_book_at, post_book, posted}
 use Rattle.promises.specs.Entering.{after}
 use Rattle.promises.specs.Packets.{is_accepted, accepted_count, rejected_count}
 use Rattle.promises.proofs.Acts.{mark_is_set, transactions_short}

@@ -1,5 +1,5 @@
 -- What check and post tell of a file: a number, and the packet in its buffer.
-use Rattle.std.specs.Prelude.{ℕ, cond, length, Ok, Err, Result}
+use Rattle.std.specs.Prelude.{ℕ, length, Ok, Err, Result}
 use Rattle.octets.specs.Classes.{Bytes}
 use Rattle.packet.specs.Written.{written}
 use Rattle.promises.specs.Calls.{Answer}

@@ -1,5 +1,5 @@
 -- From post's answer to one number, and from the texts to their registers.
-use Rattle.std.proofs.Common.{◌≡◌, ℕ, List, Ok, Err, Result, ap, ◌∙◌, ap₂}
+use Rattle.std.proofs.Common.{◌≡◌, ℕ, List, Ok, Err, ap, ◌∙◌, ap₂}
 use Rattle.octets.specs.Classes.{Bytes}
 use Rattle.calls.specs.Codes.{file_code}
 use Rattle.calls.specs.declared.fault.FileFault.{FileFault}

@@ -1,4 +1,6 @@
 // First look, the call for programs in C: bytes and numbers in, one number out.
+#![tactic(auto)]
+
 ghost use Rattle.std.specs.Prelude.{◌≡◌, length};
 ghost use Rattle.filing.specs.Filed.{packet_in};
 ghost use Rattle.promises.specs.Replaced.{handed};

@@ -1,4 +1,6 @@
 // Writes the packet that first look gives for the files in the current directory, or the item of its file code.
+#![tactic(auto)]
+
 use look_files::{Files, LIMIT, look};
 use std::fs::File;
 use std::io;

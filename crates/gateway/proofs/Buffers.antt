@@ -1,5 +1,5 @@
 -- A buffer of the length that a file can use serves as well as the one that its call names.
-use Rattle.std.proofs.Common.{◌≡◌, ℕ, ◌<◌, ◌≤◌, min, Bool, true, false, cond, eqb, ltb, List, ◌++◌, length, take, drop, is_some, Ok, Err, Result, sym, refl, ap, ◌∙◌, arith}
+use Rattle.std.proofs.Common.{◌≡◌, ℕ, min, Bool, true, false, cond, eqb, ltb, length, take, drop, is_some, Ok, Err, Result, sym, refl, ap, ◌∙◌, arith}
 use Rattle.std.proofs.lemmas.List.{take_at}
 use Rattle.std.proofs.lemmas.Bool.{ltb-true, ltb-false, le-ltb}
 use Rattle.octets.specs.Classes.{Bytes}
@@ -10,7 +10,7 @@ use Rattle.file.specs.Openings.{opening}
 use Rattle.file.specs.Records.{transactions_of}
 use Rattle.book.specs.Meaning.{BookMeaning, mark_at, free_marks}
 use Rattle.transaction.specs.Checks.{Holds}
-use Rattle.promises.specs.Calls.{Handed, Answer, too_small, check_opened, check_gate, post_opened, post_gate, checked, posted, answer_with, check_answer, post_answer, post_book_at, post_book}
+use Rattle.promises.specs.Calls.{Handed, Answer, check_opened, post_opened, checked, posted, answer_with, check_answer, post_answer, post_book_at, post_book}
 use Rattle.promises.specs.Packets.{packet_length}
 use Rattle.promises.specs.Replaced.{handed}
 use Rattle.filing.specs.Admitting.{with_code}

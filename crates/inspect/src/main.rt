@@ -1,4 +1,6 @@
 // Prints what is in a bulk file, for people.
+#![tactic(auto)]
+
 use anyhow::anyhow;
 use file::opening::{Opening, body};
 use file::records::Records;

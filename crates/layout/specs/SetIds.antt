@@ -1,5 +1,5 @@
 -- The six Set IDs.
-use Rattle.std.specs.Prelude.{ℕ, cond, List, [], ◌∷◌, Some, None, codes, Option}
+use Rattle.std.specs.Prelude.{ℕ, cond, List, Some, None, codes, Option}
 use Rattle.std.specs.Str.{bytes_eq}
 use Rattle.octets.specs.Parts.{columns}
 use Rattle.layout.specs.declared.set_id.SetId.{SetId}

@@ -1,4 +1,6 @@
 // The layouts of the bulk file's records, and the Set IDs that choose among them.
+#![tactic(auto)]
+
 ghost use Rattle.std.specs.Prelude.{◌≡◌, true};
 ghost use Rattle.layout.specs.Layouts.{header_of, detail_of, entry_of, layout_of, width_of, fields_of, Fits, Adjoining};
 ghost use Rattle.layout.specs.Companions.{companions_of, name_fields, in_order};

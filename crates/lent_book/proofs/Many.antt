@@ -1,6 +1,6 @@
 -- How many a table holds.
 -- Assumes nothing.
-use Rattle.std.proofs.Common.{◌≡◌, ℕ, ◌≤◌, Bool, List, map, length, ◌∙◌, arith}
+use Rattle.std.proofs.Common.{◌≡◌, ℕ, Bool, List, map, length, ◌∙◌, arith}
 use Rattle.std.proofs.lemmas.List.{length-take-le}
 use Rattle.ordered.specs.Tables.{shown, Fine}
 use Rattle.ordered.specs.declared.table.Table.{Table}

@@ -1,4 +1,6 @@
 // The lent book: its tables stand in memory that the caller lends, in the order of their keys.
+#![tactic(auto)]
+
 ghost use Rattle.std.specs.Prelude.{◌≡◌, ℕ, min, length};
 ghost use Rattle.book.specs.Meaning.{empty_book};
 ghost use Rattle.lent_book.specs.Lent.{lent_means, FineTables};

@@ -1,4 +1,6 @@
 // What the program firstlook writes, from the texts of its six files.
+#![tactic(auto)]
+
 ghost use Rattle.std.specs.Prelude.{◌≡◌, IfOk};
 ghost use Rattle.look_files.specs.Output.{first_bytes, output_in, output_for};
 

@@ -1,12 +1,11 @@
 -- What adding a record answers.
 -- Assumes nothing.
-use Rattle.std.proofs.Common.{◌≡◌, ℕ, ◌<◌, ◌≤◌, true, false, cond, ltb, List, length, is_some, Some, None, Ok, Err, Option, Result, sym, refl, ap, ◌∙◌, arith}
+use Rattle.std.proofs.Common.{◌≡◌, ℕ, ◌<◌, ◌≤◌, true, cond, ltb, List, length, is_some, None, Ok, Err, sym, ap, ◌∙◌, arith}
 use Rattle.std.proofs.lemmas.List.{length-take-le}
 use Rattle.std.proofs.lemmas.Bool.{lt-ltb, le-ltb}
 use Rattle.ordered.specs.Order.{ranks, held, adds}
 use Rattle.ordered.specs.Tables.{arrived, listed}
 use Rattle.ordered.specs.declared.arrivals.Arrivals.{Arrivals}
-use Rattle.ordered.specs.declared.refusal.Refusal.{Refusal}
 use Rattle.ordered.specs.declared.refusal.Refusal.TheVariants.{Held, Full}
 use Rattle.ordered.proofs.Ascending.{bytewise}
 use Rattle.ordered.proofs.Arrive.{length_sorted}

@@ -1,5 +1,7 @@
 // Finding and placing in tables whose records tell a key of bytes: tables in the order of the keys, in the caller's
 // memory, and small tables in order of arrival.
+#![tactic(auto)]
+
 ghost use Rattle.std.specs.Prelude.{◌≡◌, ℕ, Bool, true, List};
 
 pub mod arrivals;

@@ -1,4 +1,6 @@
 // Runs an independent implementation's vectors as far as no book is needed: every file's opening, and the verdict of every transaction on its own.
+#![tactic(auto)]
+
 use anyhow::Context;
 use file::opening::{Opening, body};
 use file::transactions::Transactions;

@@ -1,4 +1,6 @@
 // The items of a packet, byte by byte, and how they are written into a buffer.
+#![tactic(auto)]
+
 ghost use Rattle.std.specs.Prelude.{◌≡◌, ◌+◌, ◌≤◌, length, nat_le};
 ghost use Rattle.promises.specs.Packets.{file_item, verdict_item, code_item};
 ghost use Rattle.packet.specs.Written.{written, written_if, refusal_length, refusal_in};

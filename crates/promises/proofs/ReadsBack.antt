@@ -157,13 +157,13 @@ each_short n (r ∷ rs) h = go (is_header r) (until_few rs) (each_short n rs (om
 
 posted_fit : (holds : Holds) (day : ℕ) (ts : List (List Bytes)) (b : BookMeaning) → All (λ t. length t ≤ 16777216) ts → All VerdictFits (verdicts holds b day ts)
 posted_fit holds day [] b h = All-nil VerdictFits
-posted_fit holds day (t ∷ ts) b h = 
+posted_fit holds day (t ∷ ts) b h =
     All-cons VerdictFits (judge holds b day t) (verdicts holds (entered holds b day t) day ts) (verdicts_fit holds b day t (All-head (λ t. length t ≤ 16777216) t ts h))
     (posted_fit holds day ts (entered holds b day t) (All-tail (λ t. length t ≤ 16777216) t ts h))
 
 checked_fit : (holds : Holds) (day : ℕ) (b : BookMeaning) (ts : List (List Bytes)) → All (λ t. length t ≤ 16777216) ts → All VerdictFits (map (judge holds b day) ts)
 checked_fit holds day b [] h = All-nil VerdictFits
-checked_fit holds day b (t ∷ ts) h = 
+checked_fit holds day b (t ∷ ts) h =
     All-cons VerdictFits (judge holds b day t) (map (judge holds b day) ts) (verdicts_fit holds b day t (All-head (λ t. length t ≤ 16777216) t ts h))
     (checked_fit holds day b ts (All-tail (λ t. length t ≤ 16777216) t ts h))
 

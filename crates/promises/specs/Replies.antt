@@ -1,6 +1,5 @@
 -- What each call may answer, and the answers of a list of calls.
 use Rattle.std.specs.Prelude.{◌≡◌, List, [], ◌∷◌, Option}
-use Rattle.octets.specs.Classes.{Bytes}
 use Rattle.book.specs.declared.mark.Counts.{Counts}
 use Rattle.book.specs.declared.sought.Sought.{Sought}
 use Rattle.book.specs.Meaning.{BookMeaning}

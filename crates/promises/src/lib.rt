@@ -1,5 +1,7 @@
 // What may be concluded from the packets of a book's calls. The calls are defined in specs/; the functions here do nothing,
 // and each has one promise as its contract, so that a check of the crate asks for its proof.
+#![tactic(auto)]
+
 ghost use Rattle.promises.specs.Acting.{ActionsDo, MarkIsSet};
 ghost use Rattle.promises.specs.EitherOrder.{EitherOrder};
 ghost use Rattle.promises.specs.Facts.{Facts};

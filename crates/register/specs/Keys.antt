@@ -6,7 +6,7 @@ use Rattle.std.specs.Ordering.{is_lt}
 use Rattle.std.specs.Str.{bytes_eq}
 use Rattle.octets.specs.Classes.{Bytes}
 use Rattle.register.specs.declared.fault.TextFault.{TextFault}
-use Rattle.register.specs.declared.fault.TextFault.TheVariants.{Width, Order, Size}
+use Rattle.register.specs.declared.fault.TextFault.TheVariants.{Width, Order}
 use Rattle.std.specs.Ordering as std-orderings
 
 -- how two keys compare, byte by byte

@@ -1,9 +1,9 @@
 -- Ledger accounts in a map of bits.
-use Rattle.std.specs.Prelude.{ℕ, ◌/◌, ◌%◌, ◌^◌, Bool, cond, ◌&&◌, List, [], length, is_ok, Ok, Err, Result, ◌==◌, slice_index}
+use Rattle.std.specs.Prelude.{ℕ, ◌/◌, ◌%◌, ◌^◌, Bool, cond, ◌&&◌, [], length, is_ok, Ok, Err, Result, ◌==◌, slice_index}
 use Rattle.octets.specs.Classes.{Bytes, type_n}
 use Rattle.octets.specs.Values.{value_of}
 use Rattle.register.specs.declared.fault.TextFault.{TextFault}
-use Rattle.register.specs.declared.fault.TextFault.TheVariants.{Width, Order, Size}
+use Rattle.register.specs.declared.fault.TextFault.TheVariants.{Size}
 
 -- bit k of a byte, the lowest being bit 0
 abbrev pub is_set : ℕ → ℕ → Bool

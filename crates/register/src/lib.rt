@@ -1,4 +1,6 @@
 // Registers: sets of keys that a field is looked up in.
+#![tactic(auto)]
+
 ghost use Rattle.std.specs.Prelude.{◌≡◌, ℕ, Bool, List};
 
 pub mod bit_map;

@@ -10,7 +10,6 @@ use Rattle.file.specs.Records.{records}
 use Rattle.ordered.specs.Order.{every}
 use Rattle.book.specs.declared.fault.BookFault.TheVariants.{Full, AboveOpen}
 use Rattle.book.specs.Actions.{enter, enter_line, entering, entering_line, admits, take_open, take_answer_at, unless_refused}
-use Rattle.book.specs.Lists.{find, place}
 use Rattle.book.specs.Meaning.{BookMeaning, EntryHeld, LineHeld, same_pair, entry_at, line_at, line_first, fresh, free_lines, free_entries}
 use Rattle.transaction.specs.declared.header.Transaction.{Transaction}
 use Rattle.transaction.specs.declared.verdict.Verdict.TheVariants.{Accepted}

@@ -1,4 +1,6 @@
 // A transaction judged on its own and then against a book of any make, and entered if it is accepted.
+#![tactic(auto)]
+
 ghost use Rattle.std.specs.Prelude.{◌≡◌, Some};
 ghost use Rattle.file.specs.Records.{records};
 ghost use Rattle.promises.specs.Entering.{apply_if, entered};

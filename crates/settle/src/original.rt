@@ -14,9 +14,9 @@ use crate::fault::SettleFault;
 use book::entry::Entry;
 use book::line::Line;
 use book::{Book, line_of};
-use octets::class::{is_blank, is_same};
 use layout::pair::Pair;
 use layout::set_id::SetId;
+use octets::class::{is_blank, is_same};
 use transaction::details::{Detail, Details};
 use transaction::header::Transaction;
 

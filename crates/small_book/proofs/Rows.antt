@@ -1,6 +1,6 @@
 -- The rows of a table of arrivals, in the order of their keys.
 -- Assumes nothing.
-use Rattle.std.proofs.Common.{◌≡◌, ℕ, ◌≤◌, Bool, true, List, map, length, ◌∙◌, arith}
+use Rattle.std.proofs.Common.{◌≡◌, ℕ, Bool, true, List, map, length, ◌∙◌, arith}
 use Rattle.std.proofs.lemmas.List.{length-take-le}
 use Rattle.ordered.specs.Order.{ranks, every, ascends}
 use Rattle.ordered.specs.Tables.{arrived, listed, FineArrivals}

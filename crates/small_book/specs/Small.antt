@@ -1,6 +1,5 @@
 -- What the three tables of a small book mean, and what they keep.
 -- Assumes nothing.
-use Rattle.std.specs.Prelude.{ℕ}
 use Rattle.ordered.specs.Tables.{listed, FineArrivals}
 use Rattle.book.specs.Meaning.{BookMeaning}
 use Rattle.book.specs.Rows.{entry_code, line_code, mark_code, sound_entry, sound_line, sound_mark, rows_mean}

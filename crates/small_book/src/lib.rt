@@ -1,4 +1,6 @@
 // The small book: it holds its tables in itself, in order of arrival.
+#![tactic(auto)]
+
 ghost use Rattle.std.specs.Prelude.{◌≡◌};
 ghost use Rattle.book.specs.Meaning.{empty_book};
 ghost use Rattle.small_book.specs.Small.{small_means, FineTables};

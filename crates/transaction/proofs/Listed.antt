@@ -1,5 +1,5 @@
 -- The layers of the code give the verdict of the one list of checks.
-use Rattle.std.proofs.Common.{◌≡◌, ℕ, suc, Bool, true, false, cond, not, ◌&&◌, ◌||◌, eqb, List, [], ◌∷◌, ◌++◌, map, length, is_some, Some, None, Ok, Err, Option, sym, refl, ap, ◌∙◌}
+use Rattle.std.proofs.Common.{◌≡◌, ℕ, suc, Bool, true, false, cond, eqb, List, [], ◌∷◌, ◌++◌, map, length, is_some, Some, None, Ok, Err, Option, sym, refl, ap, ◌∙◌}
 use Rattle.std.specs.List.{flat_map}
 use Rattle.octets.specs.Classes.{Bytes}
 use Rattle.layout.specs.declared.Layout.{Layout}
@@ -7,10 +7,10 @@ use Rattle.layout.specs.declared.companion.Companion.{Companion}
 use Rattle.layout.specs.declared.field.Field.{Field}
 use Rattle.layout.specs.declared.set_id.SetId.{SetId}
 use Rattle.layout.specs.Companions.{companions_of, refused_start}
-use Rattle.layout.specs.Fields.{start_of, is_required, kind_of, register_of}
+use Rattle.layout.specs.Fields.{is_required, kind_of, register_of}
 use Rattle.layout.specs.Layouts.{header_of, width_of, fields_of}
 use Rattle.layout.specs.SetIds.{set_id_in}
-use Rattle.field.specs.Checks.{field_check, is_missing}
+use Rattle.field.specs.Checks.{is_missing}
 use Rattle.field.specs.Shapes.{shape}
 use Rattle.file.specs.Records.{is_detail, many, first_of, others_of}
 use Rattle.transaction.specs.declared.fault.RecordCause.{RecordCause}
@@ -22,7 +22,7 @@ use Rattle.transaction.specs.declared.verdict.Verdict.{Verdict}
 use Rattle.transaction.specs.declared.verdict.Verdict.TheVariants.{Accepted, Refused}
 use Rattle.transaction.specs.Checks.{Holds, cut, field_checks, keeps_companion, companion_check, product_passes, checks_under, checks_under_any, layout_at, record_checks, records_checks, detail_count, entry_set_check, has_good_set, total_passes, checks_of_set, own_checks}
 use Rattle.transaction.specs.Details.{DetailRead, details_of}
-use Rattle.transaction.specs.Layers.{Passed, and_then, first, named, unless, at, cause_verdict, fault_verdict, outcome, field_layer, companion_layer, layout_layer, any_layer, record_layer, records_layer, entry_set_layer, sums_layer, set_layer, known_layer, own_layer}
+use Rattle.transaction.specs.Layers.{Passed, and_then, first, named, unless, at, cause_verdict, fault_verdict, outcome, field_layer, companion_layer, layout_layer, any_layer, record_layer, records_layer, entry_set_layer, set_layer, known_layer, own_layer}
 use Rattle.transaction.specs.Verdicts.{Check, check, verdict, refusal}
 
 -- the second verdict where the first accepts

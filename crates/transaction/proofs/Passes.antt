@@ -1,5 +1,5 @@
 -- What passes has passed every part.
-use Rattle.std.proofs.Common.{◌≡◌, ℕ, Bool, true, false, cond, eqb, List, [], ◌∷◌, ◌++◌, length, IfOk, Ok, Err, All, Result, sym, refl, ap, ◌∙◌, subst, ⊎_elim, arith}
+use Rattle.std.proofs.Common.{◌≡◌, ℕ, Bool, true, false, cond, eqb, List, [], ◌∷◌, length, IfOk, Ok, Err, Result, sym, refl, ap, subst, arith}
 use Rattle.std.proofs.lemmas.Bool.{eqb-true}
 use Rattle.std.proofs.lemmas.List.Elements.{All-nil, All-cons}
 use Rattle.octets.specs.Classes.{Bytes}
@@ -13,7 +13,7 @@ use Rattle.transaction.specs.declared.verdict.Verdict.{Verdict}
 use Rattle.transaction.specs.declared.verdict.Verdict.TheVariants.{Accepted, Refused}
 use Rattle.transaction.specs.Checks.{Holds}
 use Rattle.transaction.specs.Layers.{Passed, and_then, named, unless, at, telling, layout_layer, set_layer}
-use Rattle.transaction.specs.Verdicts.{Check, verdict, refusal, Passes, Counts, FirstFailing, FirstCounts}
+use Rattle.transaction.specs.Verdicts.{Check, verdict, refusal, Passes, Counts, FirstCounts}
 use Rattle.transaction.proofs.Chains.{telling_ok}
 
 err_no_ok : {X E : Type 0} {x : X} {e : E} → Err e ≡ Ok x → ⊥

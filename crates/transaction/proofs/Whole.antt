@@ -1,5 +1,5 @@
 -- The whole call: what the layers answer is what the list of checks gives.
-use Rattle.std.proofs.Common.{◌≡◌, List, IfOk, Some, None, Ok, Err, Option, Result, sym, refl, ap, ◌∙◌, subst}
+use Rattle.std.proofs.Common.{◌≡◌, List, IfOk, Some, None, Ok, Err, Result, sym, refl, ap, ◌∙◌, subst}
 use Rattle.octets.specs.Classes.{Bytes}
 use Rattle.layout.specs.declared.set_id.SetId.{SetId}
 use Rattle.layout.specs.SetIds.{set_id_in}

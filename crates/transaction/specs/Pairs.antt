@@ -1,5 +1,5 @@
 -- The pairs of a transaction: its own and its original's, as far as its header is good.
-use Rattle.std.specs.Prelude.{List, [], ◌∷◌, is_some, Some, None, Option}
+use Rattle.std.specs.Prelude.{Some, None, Option}
 use Rattle.octets.specs.Classes.{Bytes}
 use Rattle.layout.specs.declared.set_id.SetId.{SetId}
 use Rattle.layout.specs.Layouts.{header_of}

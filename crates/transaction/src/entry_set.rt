@@ -2,10 +2,10 @@
 ghost use Rattle.std.specs.Prelude.{◌≡◌, ◌+◌, ◌^◌, ◌<◌, ◌≤◌, cond};
 ghost use Rattle.transaction.specs.Details.{is_debit, sgl_amount, debit_in, credit_in, is_absent, is_balanced, is_post_sgl, is_good_set, with_entry};
 
+use layout::set_id::SetId;
 use octets::class::is_same;
 use octets::part::columns_of;
 use octets::value::number_at;
-use layout::set_id::SetId;
 
 // Sums of whole cents: the numbers are so wide that no text is long enough to fill them.
 #[derive(Clone, Copy)]

@@ -1,4 +1,6 @@
 // A transaction judged on its own.
+#![tactic(auto)]
+
 pub mod details;
 pub mod entry_set;
 pub mod fault;

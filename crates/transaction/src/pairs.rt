@@ -9,10 +9,10 @@ ghost use Rattle.transaction.specs.Verdicts.{verdict};
 
 use crate::header::Transaction;
 use crate::own::check_header;
-use octets::line::Line;
 use file::records::Records;
 use layout::pair::Pair;
 use layout::set_id::SetId;
+use octets::line::Line;
 use register::five::Registers;
 
 #[derive(Clone, Copy)]

@@ -11,9 +11,9 @@ ghost use Rattle.transaction.specs.Verdicts.{Counts, FirstCounts};
 use crate::fault::{RecordCause, RecordFault, TransactionFault};
 use crate::header::Transaction;
 use crate::own::check_set;
-use octets::line::Line;
 use file::records::Records;
 use layout::set_id::SetId;
+use octets::line::Line;
 use register::five::Registers;
 
 // How long the header of a payment is.

@@ -1,7 +1,6 @@
 -- Worked facts of whole transactions, byte by byte, judged on their own.
 use Rattle.std.specs.Prelude.{List, [], ◌∷◌, ◌++◌, true, ◌≡◌, ℕ, codes, length, replicate}
 use Rattle.octets.specs.Classes.{Bytes}
-use Rattle.transaction.specs.declared.verdict.Verdict.{Verdict}
 use Rattle.transaction.specs.declared.verdict.Verdict.TheVariants.{Accepted, Refused}
 use Rattle.transaction.specs.Checks.{Holds, own_verdict}
 

@@ -1,4 +1,6 @@
 // Worked facts of whole transactions, and how many details one may have.
+#![tactic(auto)]
+
 ghost use Rattle.transaction_cases.specs.Facts.{Facts};
 
 // It stands for its contract alone.

@@ -1,4 +1,6 @@
 // The words for people: what the codes say, and the names of the Set IDs.
+#![tactic(auto)]
+
 ghost use Rattle.std.specs.Prelude.{◌≡◌};
 ghost use Rattle.words.specs.Words.{file_words, register_words, action_words, field_words, record_words, transaction_words, book_words, words_of, name_of};
 

@@ -1,4 +1,4 @@
-use Rattle.std.proofs.Common.{◌≡◌, length, ap, ◌∙◌}
+use Rattle.std.proofs.Common.{length, ap, ◌∙◌}
 use Rattle.filing.specs.Filed.{packet_in}
 use Rattle.promises.specs.Replaced.{handed}
 use Rattle.first_look.specs.Looks.{texts, number_of}

@@ -1,4 +1,4 @@
-use Rattle.std.proofs.Common.{◌≡◌, ℕ, ◌-◌, ◌≤◌, List, [], ◌∷◌, ◌++◌, length, set, sym, refl, ap, ◌∙◌, lit≤}
+use Rattle.std.proofs.Common.{◌≡◌, ℕ, ◌-◌, ◌≤◌, List, [], ◌∷◌, ◌++◌, length, set, ap, ◌∙◌, lit≤}
 use Rattle.std.proofs.lemmas.List.{set-append_right}
 use Rattle.book.specs.Rows.{digits_of}
 use Rattle.book.proofs.line_row.line_key.Goals as goal

@@ -1,5 +1,5 @@
-use Rattle.std.proofs.Common.{◌≡◌, ◌-◌, length, drop, ap, ◌∙◌, arith}
-use Rattle.std.proofs.lemmas.List.{length-drop, take_rest}
+use Rattle.std.proofs.Common.{◌≡◌, drop, ap, ◌∙◌, arith}
+use Rattle.std.proofs.lemmas.List.{take_rest}
 use Rattle.file.specs.Lengths.{line_len}
 use Rattle.file.proofs.transactions.past_line.Goals as goal
 use Rattle.file.proofs.transactions.past_line.Goals.{After-line_len-line}

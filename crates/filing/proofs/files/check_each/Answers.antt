@@ -1,5 +1,4 @@
-use Rattle.std.proofs.Common.{◌≡◌, ◌≤◌, List, map, length, sym, ap, ◌∙◌, subst}
-use Rattle.octets.specs.Classes.{Bytes}
+use Rattle.std.proofs.Common.{◌≡◌, ◌≤◌, map, length, sym, ap, ◌∙◌, subst}
 use Rattle.file.specs.Records.{records, transactions, transactions_of}
 use Rattle.packet.specs.Written.{written}
 use Rattle.promises.specs.Judging.{judge}

@@ -1,4 +1,4 @@
-use Rattle.std.proofs.Common.{◌≡◌, ◌≤◌, List, ◌∷◌, length, sym, ap, ◌∙◌, subst}
+use Rattle.std.proofs.Common.{◌≡◌, ◌≤◌, ◌∷◌, length, sym, ap, ◌∙◌, subst}
 use Rattle.file.specs.Records.{records, transactions, transactions_of}
 use Rattle.packet.specs.Written.{written}
 use Rattle.promises.specs.Entering.{verdicts, after}

@@ -1,4 +1,4 @@
-use Rattle.std.proofs.Common.{◌≡◌, ◌-◌, ◌≤◌, ◌&&◌, length, take, drop, sym, ap, ◌∙◌, arith, rules}
+use Rattle.std.proofs.Common.{◌≡◌, ◌-◌, ◌≤◌, ◌&&◌, length, sym, ap, ◌∙◌, arith, rules}
 use Rattle.register.specs.Keys.{cut, ascends}
 use Rattle.register.proofs.Texts.{room_two, ascends_more, ascends_end}
 use Rattle.register.proofs.key_text.is_ascending.Goals as goal

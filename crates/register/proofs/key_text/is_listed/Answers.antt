@@ -1,5 +1,5 @@
-use Rattle.std.proofs.Common.{◌≡◌, ◌+◌, ◌-◌, ◌*◌, ◌/◌, ◌<◌, ◌≤◌, length, take, drop, Ordering, sym, ap, ◌∙◌, arith}
-use Rattle.register.specs.Keys.{rank, cut}
+use Rattle.std.proofs.Common.{◌≡◌, ◌*◌, ◌/◌, take, drop, sym, ap, ◌∙◌, arith}
+use Rattle.register.specs.Keys.{cut}
 use Rattle.register.proofs.Order.{standing, in_any, ascends_parted}
 use Rattle.register.proofs.Texts.{room_at, turn_less, turn_equal, turn_greater}
 use Rattle.register.proofs.key_text.is_listed.Goals as goal

@@ -1,4 +1,4 @@
-use Rattle.std.proofs.Common.{◌≡◌, length, sym, ap, ◌∙◌}
+use Rattle.std.proofs.Common.{length, ap, ◌∙◌}
 use Rattle.layout.specs.Layouts.{header_of}
 use Rattle.transaction.specs.Headers.{reading_of, own_pair, original_pair}
 use Rattle.transaction.proofs.Touches.{touches, touches_none, touches_long, pairs_are}

@@ -1,4 +1,4 @@
-use Rattle.std.proofs.Common.{◌≡◌, sym, ap, ◌∙◌}
+use Rattle.std.proofs.Common.{◌≡◌, ap, ◌∙◌}
 use Rattle.layout.specs.SetIds.{set_id_in}
 use Rattle.file.specs.Records.{records, first_of, others_of, is_detail, many}
 use Rattle.transaction.proofs.Whole.{no_set_id, verdict_is, counts_so, known, unknown, reading_is, made_map}

@@ -1,4 +1,4 @@
-use Rattle.std.proofs.Common.{◌≡◌, sym, refl, ap, ◌∙◌}
+use Rattle.std.proofs.Common.{sym, refl, ap, ◌∙◌}
 use Rattle.file.specs.Records.{records, is_detail, many}
 use Rattle.transaction.specs.Headers.{reading_of}
 use Rattle.transaction.specs.Layers.{set_layer}

@@ -1,6 +1,5 @@
-use Rattle.std.proofs.Common.{◌≡◌, refl, ap, ◌∙◌, le_refl}
+use Rattle.std.proofs.Common.{ap, ◌∙◌, le_refl}
 use Rattle.std.proofs.lemmas.Bool.{le-leb}
-use Rattle.book.specs.Meaning.{EntryHeld}
 use Rattle.book.specs.Rows.{pair_of}
 use Rattle.book.proofs.Keys.{pair_whole}
 use Rattle.book.proofs.entry_row.EntryRow.new.Goals as goal

@@ -1,8 +1,7 @@
-use Rattle.std.proofs.Common.{◌≡◌, ◌^◌, ◌<◌, ◌≤◌, take, drop, sym, refl, ap, ◌∙◌, arith}
+use Rattle.std.proofs.Common.{◌^◌, ◌<◌, take, drop, sym, ap, ◌∙◌, arith}
 use Rattle.std.proofs.lemmas.Slice.Eq.{bytes_eq-Decides}
 use Rattle.std.proofs.lemmas.Bool.{and_from, le-leb}
 use Rattle.octets.specs.Values.{value_of}
-use Rattle.book.specs.Meaning.{LineHeld}
 use Rattle.book.specs.Stands.{is_line_number}
 use Rattle.book.specs.Rows.{pair_of, digits_of}
 use Rattle.book.proofs.Keys.{line_pair, line_digits, line_value}

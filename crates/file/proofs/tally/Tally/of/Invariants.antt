@@ -1,4 +1,4 @@
-use Rattle.std.proofs.Common.{◌≡◌, ◌+◌, ◌≤◌, length}
+use Rattle.std.proofs.Common.{◌≡◌, ◌+◌, length}
 use Rattle.file.specs.Records.{records, many, is_header, is_detail, is_entry}
 use Rattle.file.proofs.tally.Tally.of.Given as goal
 

@@ -1,4 +1,4 @@
-use Rattle.std.proofs.Common.{◌≡◌, sym, refl, ap, ◌∙◌}
+use Rattle.std.proofs.Common.{ap, ◌∙◌}
 use Rattle.ordered.specs.Tables.{shown}
 use Rattle.book.specs.Rows.{rows_mean}
 use Rattle.book.proofs.Acts.{entry_entered}

@@ -1,4 +1,4 @@
-use Rattle.std.proofs.Common.{◌≡◌, ◌^◌, ◌<◌, sym, refl, ap, ◌∙◌, arith}
+use Rattle.std.proofs.Common.{◌^◌, ◌<◌, ap, ◌∙◌, arith}
 use Rattle.ordered.specs.Tables.{shown}
 use Rattle.book.specs.Rows.{rows_mean}
 use Rattle.book.proofs.Acts.{line_entered}

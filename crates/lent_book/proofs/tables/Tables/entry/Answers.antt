@@ -1,7 +1,5 @@
-use Rattle.std.proofs.Common.{◌≡◌, cond, Some, None, sym, refl, ap, ◌∙◌}
+use Rattle.std.proofs.Common.{cond, Some, None, sym, refl, ap, ◌∙◌}
 use Rattle.ordered.specs.Tables.{shown}
-use Rattle.book.specs.Rows.{rows_mean}
-use Rattle.std.specs.Option.{option_map}
 use Rattle.ordered.specs.Order.{ranks, held}
 use Rattle.book.specs.Told.{entry_told}
 use Rattle.book.specs.Rows.{entry_of, entry_code, sound_entry, pair_key}

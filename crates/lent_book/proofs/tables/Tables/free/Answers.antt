@@ -1,5 +1,4 @@
-use Rattle.std.proofs.Common.{◌≡◌, ◌-◌, ◌≤◌, length, sym, ap, ◌∙◌, arith}
-use Rattle.book.specs.declared.places.FreePlaces.{FreePlaces}
+use Rattle.std.proofs.Common.{◌-◌, sym, ap, ◌∙◌}
 use Rattle.lent_book.proofs.Many.{many}
 use Rattle.book.specs.Rows.{entry_of, line_of, mark_of, entry_code, line_code, mark_code, sound_entry, sound_line, sound_mark}
 use Rattle.lent_book.proofs.tables.Tables.free.Goals as goal

@@ -1,11 +1,7 @@
-use Rattle.std.proofs.Common.{◌≡◌, ◌^◌, ◌<◌, Some, None, Option, sym, refl, ap, ◌∙◌, arith}
+use Rattle.std.proofs.Common.{◌^◌, ◌<◌, Some, None, refl, ap, ◌∙◌, arith}
 use Rattle.ordered.specs.Tables.{shown}
-use Rattle.book.specs.Rows.{rows_mean}
 use Rattle.ordered.specs.Order.{ranks, held}
-use Rattle.book.specs.declared.line.Line.{Line}
-use Rattle.book.specs.declared.line_row.LineRow.{LineRow}
-use Rattle.book.specs.Meaning.{line_told}
-use Rattle.book.specs.Rows.{line_of, line_code}
+use Rattle.book.specs.Rows.{line_code}
 use Rattle.book.proofs.Acts.{line_told_law}
 use Rattle.lent_book.proofs.tables.Tables.line.Goals as goal
 

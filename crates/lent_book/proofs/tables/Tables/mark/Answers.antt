@@ -1,6 +1,5 @@
-use Rattle.std.proofs.Common.{◌≡◌, Some, None, sym, refl, ap, ◌∙◌}
+use Rattle.std.proofs.Common.{Some, None, refl, ap}
 use Rattle.ordered.specs.Tables.{shown}
-use Rattle.book.specs.Rows.{rows_mean}
 use Rattle.book.proofs.Acts.{mark_told_law}
 use Rattle.lent_book.proofs.tables.Tables.mark.Goals as goal
 

@@ -1,6 +1,6 @@
-use Rattle.std.proofs.Common.{◌≡◌, ◌<◌, true, cond, length, get_or, drop, Some, None, sym, refl, ap, ◌∙◌, arith}
+use Rattle.std.proofs.Common.{◌≡◌, ◌<◌, true, cond, length, get_or, drop, Some, None, sym, ap, ◌∙◌, arith}
 use Rattle.std.proofs.lemmas.List.{get_or-take, get_or_default}
-use Rattle.ordered.specs.Order.{ranks, held}
+use Rattle.ordered.specs.Order.{ranks}
 use Rattle.ordered.specs.Tables.{shown}
 use Rattle.ordered.proofs.Ascending.{bytewise, itself, here}
 use Rattle.ordered.proofs.Every.{every_at}

@@ -1,4 +1,4 @@
-use Rattle.std.proofs.Common.{◌≡◌, Ok, Err, sym, refl, ap, ◌∙◌, arith}
+use Rattle.std.proofs.Common.{Err, sym, ap, ◌∙◌, arith}
 use Rattle.ordered.specs.Tables.{shown}
 use Rattle.book.specs.Rows.{rows_mean}
 use Rattle.book.specs.declared.fault.BookFault.TheVariants.{CountTooLarge}

@@ -1,8 +1,7 @@
-use Rattle.std.proofs.Common.{◌≡◌, map, sym, ap, ◌∙◌}
+use Rattle.std.proofs.Common.{map, sym, ap, ◌∙◌}
 use Rattle.ordered.specs.Tables.{arrived}
-use Rattle.book.specs.declared.mark.Counts.{Counts}
 use Rattle.book.specs.Meaning.{accepted_in, rejected_in, counted_in}
-use Rattle.book.specs.Rows.{entry_of, line_of, mark_of, entry_code, line_code, mark_code, sound_entry, sound_line, sound_mark, pair_key, less_row}
+use Rattle.book.specs.Rows.{mark_of, mark_code, sound_mark}
 use Rattle.book.proofs.Joins.{sum_sorted}
 use Rattle.small_book.proofs.tables.Tables.count.Goals as goal
 

@@ -1,8 +1,8 @@
-use Rattle.std.proofs.Common.{◌≡◌, sym, refl, ap, ◌∙◌}
+use Rattle.std.proofs.Common.{◌∙◌}
 use Rattle.ordered.specs.Tables.{listed}
 use Rattle.book.proofs.Acts.{entry_entered}
-use Rattle.book.specs.Rows.{entry_of, line_of, mark_of, entry_code, line_code, mark_code, sound_entry, sound_line, sound_mark, pair_key, less_row}
-use Rattle.small_book.proofs.Rows.{all_sound, in_order_law, many, many_of}
+use Rattle.book.specs.Rows.{entry_code, line_code, mark_code, sound_entry}
+use Rattle.small_book.proofs.Rows.{all_sound}
 use Rattle.small_book.proofs.tables.Tables.enter_entry.Goals as goal
 
 pub returns : goal.returns

@@ -1,12 +1,11 @@
-use Rattle.std.proofs.Common.{◌≡◌, cond, Some, None, sym, refl, ap, ◌∙◌}
+use Rattle.std.proofs.Common.{cond, Some, None, sym, refl, ap, ◌∙◌}
 use Rattle.ordered.specs.Tables.{listed}
-use Rattle.std.specs.Option.{option_map}
 use Rattle.ordered.specs.Order.{ranks, held}
 use Rattle.book.specs.Told.{entry_told}
 use Rattle.book.proofs.Acts.{entry_told_law}
 use Rattle.book.proofs.Joins.{held_every}
-use Rattle.book.specs.Rows.{entry_of, line_of, mark_of, entry_code, line_code, mark_code, sound_entry, sound_line, sound_mark, pair_key, less_row}
-use Rattle.small_book.proofs.Rows.{all_sound, in_order_law, many, many_of}
+use Rattle.book.specs.Rows.{entry_of, entry_code, line_code, mark_code, sound_entry, pair_key}
+use Rattle.small_book.proofs.Rows.{all_sound}
 use Rattle.small_book.proofs.tables.Tables.entry.Goals as goal
 
 pub returns-in-Some : goal.returns-in-Some

@@ -1,12 +1,9 @@
-use Rattle.std.proofs.Common.{◌≡◌, ◌^◌, ◌<◌, Some, None, Option, sym, refl, ap, ◌∙◌, arith}
+use Rattle.std.proofs.Common.{◌^◌, ◌<◌, Some, None, refl, ap, ◌∙◌, arith}
 use Rattle.ordered.specs.Tables.{listed}
 use Rattle.ordered.specs.Order.{ranks, held}
-use Rattle.book.specs.declared.line.Line.{Line}
-use Rattle.book.specs.declared.line_row.LineRow.{LineRow}
-use Rattle.book.specs.Meaning.{line_told}
 use Rattle.book.proofs.Acts.{line_told_law}
-use Rattle.book.specs.Rows.{entry_of, line_of, mark_of, entry_code, line_code, mark_code, sound_entry, sound_line, sound_mark, pair_key, less_row}
-use Rattle.small_book.proofs.Rows.{all_sound, in_order_law, many, many_of}
+use Rattle.book.specs.Rows.{entry_code, line_code, mark_code, sound_line}
+use Rattle.small_book.proofs.Rows.{all_sound}
 use Rattle.small_book.proofs.tables.Tables.line.Goals as goal
 
 pub returns-in-Some : goal.returns-in-Some

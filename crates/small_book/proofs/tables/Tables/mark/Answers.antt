@@ -1,8 +1,8 @@
-use Rattle.std.proofs.Common.{◌≡◌, Some, None, sym, refl, ap, ◌∙◌}
+use Rattle.std.proofs.Common.{Some, None, refl, ap}
 use Rattle.ordered.specs.Tables.{listed}
 use Rattle.book.proofs.Acts.{mark_told_law}
-use Rattle.book.specs.Rows.{entry_of, line_of, mark_of, entry_code, line_code, mark_code, sound_entry, sound_line, sound_mark, pair_key, less_row}
-use Rattle.small_book.proofs.Rows.{all_sound, in_order_law, many, many_of}
+use Rattle.book.specs.Rows.{entry_code, line_code, mark_code, sound_mark}
+use Rattle.small_book.proofs.Rows.{all_sound}
 use Rattle.small_book.proofs.tables.Tables.mark.Goals as goal
 
 pub returns-in-Some : goal.returns-in-Some

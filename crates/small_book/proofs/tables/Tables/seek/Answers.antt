@@ -1,6 +1,6 @@
-use Rattle.std.proofs.Common.{◌≡◌, ◌<◌, true, cond, map, length, get_or, drop, Some, None, sym, refl, ap, ◌∙◌, arith}
+use Rattle.std.proofs.Common.{◌≡◌, ◌<◌, true, cond, map, length, get_or, drop, Some, None, sym, ap, ◌∙◌, arith}
 use Rattle.std.proofs.lemmas.List.{get_or-take}
-use Rattle.ordered.specs.Order.{ranks, held, sorted}
+use Rattle.ordered.specs.Order.{ranks, held}
 use Rattle.ordered.specs.Tables.{arrived, listed}
 use Rattle.ordered.proofs.Ascending.{bytewise}
 use Rattle.ordered.proofs.Arrive.{held_at_own}
@@ -8,7 +8,7 @@ use Rattle.ordered.proofs.Every.{every_at}
 use Rattle.book.specs.Lists.{find}
 use Rattle.book.specs.Meaning.{seekable}
 use Rattle.book.specs.Told.{entry_told}
-use Rattle.book.specs.Rows.{entry_of, line_of, mark_of, entry_code, line_code, mark_code, sound_entry, sound_line, sound_mark, pair_key, less_row}
+use Rattle.book.specs.Rows.{entry_of, entry_code, line_code, mark_code, sound_entry}
 use Rattle.book.proofs.Acts.{sought_held}
 use Rattle.book.proofs.Blank.{blank_entry}
 use Rattle.book.proofs.Joins.{none_sorted}

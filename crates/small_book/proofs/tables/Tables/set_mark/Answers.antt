@@ -1,10 +1,10 @@
-use Rattle.std.proofs.Common.{◌≡◌, Ok, Err, sym, refl, ap, ◌∙◌, arith}
+use Rattle.std.proofs.Common.{Err, sym, ap, ◌∙◌}
 use Rattle.ordered.specs.Tables.{listed}
 use Rattle.book.specs.declared.fault.BookFault.TheVariants.{CountTooLarge}
 use Rattle.book.specs.Actions.{and_then}
 use Rattle.book.proofs.Acts.{mark_set, mark_refused}
-use Rattle.book.specs.Rows.{entry_of, line_of, mark_of, entry_code, line_code, mark_code, sound_entry, sound_line, sound_mark, pair_key, less_row}
-use Rattle.small_book.proofs.Rows.{all_sound, in_order_law, many, many_of}
+use Rattle.book.specs.Rows.{entry_code, line_code, mark_code, sound_mark}
+use Rattle.small_book.proofs.Rows.{all_sound}
 use Rattle.small_book.proofs.tables.Tables.set_mark.Goals as goal
 
 pub returns-then-counts_fit : goal.returns-then-counts_fit

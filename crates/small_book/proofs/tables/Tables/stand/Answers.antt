@@ -1,6 +1,6 @@
 use Rattle.std.proofs.Common.{arith}
 use Rattle.ordered.specs.Tables.{listed}
-use Rattle.book.specs.Rows.{entry_of, line_of, mark_of, entry_code, line_code, mark_code, sound_entry, sound_line, sound_mark, pair_key, less_row}
+use Rattle.book.specs.Rows.{entry_code, line_code, mark_code, sound_entry, sound_line, sound_mark}
 use Rattle.book.proofs.Acts.{rows_stand}
 use Rattle.small_book.proofs.Rows.{all_sound, in_order_law, many}
 use Rattle.small_book.proofs.tables.Tables.stand.Goals as goal

@@ -1,4 +1,4 @@
-use Rattle.std.proofs.Common.{◌≡◌, ◌-◌, ◌<◌, ◌≤◌, length, get_or, take, set, Some, sym, refl, ap, ◌∙◌, arith}
+use Rattle.std.proofs.Common.{◌-◌, ◌<◌, ◌≤◌, get_or, take, set, Some, sym, refl, ap, ◌∙◌, arith}
 use lib.Seq.{take-set-lt}
 use Rattle.std.proofs.lemmas.List.{get_or-take, length-set}
 use Rattle.std.proofs.lemmas.Bool.{leb-true, le-leb}
@@ -7,7 +7,7 @@ use Rattle.ordered.specs.Tables.{arrived, listed}
 use Rattle.ordered.proofs.Ascending.{bytewise}
 use Rattle.ordered.proofs.Arrive.{apart_set}
 use Rattle.ordered.proofs.Every.{every_at, every_set}
-use Rattle.book.specs.Rows.{entry_of, line_of, mark_of, entry_code, line_code, mark_code, sound_entry, sound_line, sound_mark, pair_key, less_row}
+use Rattle.book.specs.Rows.{entry_code, line_code, mark_code, sound_entry, less_row}
 use Rattle.book.proofs.Acts.{take_absent, take_above, take_done}
 use Rattle.book.proofs.Blank.{blank_entry}
 use Rattle.small_book.proofs.Rows.{all_sound, came}
