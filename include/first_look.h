@@ -5,8 +5,8 @@
  * only if its original stands before it in the same file, and the call remembers nothing.
  * docs/RULES.md says what the codes mean, docs/PACKET.md has the packet byte by byte.
  *
- * To link: build target/staticlib/libfirst_look.a by `rt staticlib first_look`, and name it and the
- * toolchain's lib/librattle_c.a, in this order, behind your own objects. examples/c/build does so.
+ * To link: build target/staticlib/libfirst_look.a by examples/c/library, and name it behind your own
+ * objects. examples/c/build does so.
  */
 #ifndef FIRST_LOOK_H
 #define FIRST_LOOK_H

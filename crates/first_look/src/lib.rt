@@ -1,4 +1,4 @@
-// First look, the call for programs in C: bytes and numbers in, one number out.
+// First look: bytes and numbers in, one number out. Crate first_look_c makes it a symbol for programs in C.
 #![tactic(auto)]
 
 ghost use Rattle.std.specs.Prelude.{◌≡◌, length};
@@ -15,8 +15,7 @@ use small_book::SmallBook;
 // Posts a file to a new small book, judged by the registers of four key texts and a bit map; a text or a map that its check
 // refuses is an empty register. It answers the length of the packet, 36 or more, or a file code, which is below 20; a refused
 // file leaves the packet's buffer as it is.
-#[unsafe(no_mangle)]
-pub extern "C" fn first_look(
+pub fn first_look(
     file: &[u8],
     alc: &[u8],
     office: &[u8],

@@ -5,6 +5,7 @@ use look_files::{Files, LIMIT, look};
 use std::fs::File;
 use std::io;
 use std::io::{Read, Write};
+use std::process::ExitCode;
 
 // No more of a file is read than is looked at.
 fn read_start(rt: &HostRuntime, name: &str) -> io::Result<Vec<u8>> {
@@ -24,13 +25,13 @@ fn read(rt: &HostRuntime, name: &str) -> anyhow::Result<Vec<u8>> {
     }
 }
 
-fn main(rt: HostRuntime) -> anyhow::Result<()> {
-    let bulk = read(&rt, "bulk.txt")?;
-    let agencies = read(&rt, "alc.txt")?;
-    let offices = read(&rt, "do.txt")?;
-    let symbols = read(&rt, "tas.txt")?;
-    let units = read(&rt, "unit.txt")?;
-    let accounts = read(&rt, "sgl.map")?;
+fn run(rt: &HostRuntime) -> anyhow::Result<()> {
+    let bulk = read(rt, "bulk.txt")?;
+    let agencies = read(rt, "alc.txt")?;
+    let offices = read(rt, "do.txt")?;
+    let symbols = read(rt, "tas.txt")?;
+    let units = read(rt, "unit.txt")?;
+    let accounts = read(rt, "sgl.map")?;
     let files = Files {
         bulk: &bulk,
         agencies: &agencies,
@@ -42,4 +43,12 @@ fn main(rt: HostRuntime) -> anyhow::Result<()> {
     let output = look(rt.alloc(), &files)?;
     rt.stdout().write_all(&output)?;
     Ok(())
+}
+
+// What went wrong has been said where it did.
+fn main(rt: HostRuntime) -> ExitCode {
+    match run(&rt) {
+        Ok(()) => ExitCode::SUCCESS,
+        Err(_) => ExitCode::FAILURE,
+    }
 }

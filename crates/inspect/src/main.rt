@@ -7,6 +7,7 @@ use file::records::Records;
 use file::tally::{Found, Tally};
 use file::transactions::Transactions;
 use layout::set_id::SetId;
+use std::process::ExitCode;
 use std::{env, fs};
 use words::{name_of, words_of};
 
@@ -98,6 +99,10 @@ fn run(rt: &HostRuntime) -> anyhow::Result<()> {
     inspect(rt, name.as_str())
 }
 
-fn main(rt: HostRuntime) -> anyhow::Result<()> {
-    run(&rt)
+// What went wrong has been said where it did.
+fn main(rt: HostRuntime) -> ExitCode {
+    match run(&rt) {
+        Ok(()) => ExitCode::SUCCESS,
+        Err(_) => ExitCode::FAILURE,
+    }
 }

@@ -1,4 +1,6 @@
 // Runs the files of an independent implementation through first look, and compares every answer and every byte of the buffer.
+#![tactic(auto)]
+
 use anyhow::Context;
 use first_look::first_look;
 use octets::class::is_same;
