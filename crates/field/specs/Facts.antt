@@ -46,7 +46,7 @@ pub record Facts : Type 0 where
   pub bit_1010 : (bits : Bytes) → bit_at bits 1010 ≡ is_set (slice_index bits 126) 2
   pub key_1010 : (bits : Bytes) → mapped bits (codes "1010") ≡ bit_at bits 1010
   -- a key of another width is in no list
-  pub other_width : (w : ℕ) (text k : Bytes) → (length k ≢ w) → is_in (listed w text) k ≡ false
+  pub other_width : (w : ℕ) (text k : Bytes) → length k ≢ w → is_in (listed w text) k ≡ false
   -- `EABA` at width 2 is not ascending
   pub keys_eaba : key_check 2 (codes "EABA") ≡ Err Order
   pub keys_baea : key_check 2 (codes "BAEA") ≡ Ok tt

@@ -27,7 +27,7 @@ is_one_of letters s = length s == 1 && (slice_index s 0 == slice_index letters 0
 -- a Set ID, a or b
 abbrev pub is_one_set : SetId → SetId → Option SetId → Bool
 is_one_set a b None = false
-is_one_set a b (Some set) = (number_of set) == number_of a || (number_of set) == number_of b
+is_one_set a b (Some set) = number_of set == number_of a || number_of set == number_of b
 
 abbrev pub shape : Kind → Bytes → Bool
 shape Text s = type_a s

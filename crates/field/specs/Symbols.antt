@@ -12,7 +12,7 @@ is_availability b = b == 88 || (b == 70 || (b == 65 || (b == 77 || b == 32)))
 
 abbrev pub is_symbol : Bytes → Bool
 is_symbol s =
-    (length s == 27)
+    length s == 27
     && (digits_or_blank (columns 1 2 s)  -- SP, sub-level prefix
     && (digits_or_blank (columns 3 3 s)  -- ATA, allocation transfer agency
     && (type_n (columns 6 3 s)  -- AID, agency

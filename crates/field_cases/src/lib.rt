@@ -1,6 +1,6 @@
+// Tests of registers and fields, by values from the rules.
 #![tactic(auto)]
 
-// Tests of registers and fields, by values from the rules.
 #[cfg(test)]
 mod fields;
 #[cfg(test)]

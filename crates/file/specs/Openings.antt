@@ -32,7 +32,7 @@ is_file_identifier r = bytes_eq r (codes "PCA    ")
 
 abbrev pub is_batch_header : Bytes → Bool
 is_batch_header r =
-    (length r == 32)
+    length r == 32
     && (bytes_eq (columns 1 5 r) (codes "BIPAC")
     && (type_n (columns 6 8 r)
     && type_a (columns 14 19 r)))

@@ -45,7 +45,7 @@ fn run(rt: &HostRuntime) -> anyhow::Result<()> {
     Ok(())
 }
 
-// What went wrong has been said where it did.
+// A file that cannot be read has been named where it was; a write that fails has no words of its own, only the status.
 fn main(rt: HostRuntime) -> ExitCode {
     match run(&rt) {
         Ok(()) => ExitCode::SUCCESS,

@@ -4,15 +4,14 @@ use Rattle.std.proofs.Common.{◌≡◌, ℕ, zero, suc, ◌+◌, ◌<◌, ◌�
 use Rattle.std.proofs.lemmas.Bool.{cases_lt, eqb-true, and_parts, and_from}
 use Rattle.std.proofs.lemmas.List.{get_or_read}
 use Rattle.std.specs.Cmp.{unsigned_tied, nat_cmp_total}
-use Rattle.std.specs.Ordering.{is_lt, is_eq, is_gt, ordering_reverse, ordering_then}
+use Rattle.std.specs.Ordering.{is_lt, is_eq, is_gt, ordering_reverse, ordering_then, nat_cmp}
 use Rattle.std.specs.Cmp.Lexicographic.{lists_total}
 use Rattle.std.specs.List.{insert}
 use Rattle.ordered.specs.Order.{ranks, TotalOrder, leads, ascends, held, entered, altered, Here, Gap}
-use Rattle.std.specs.Ordering as std-orderings
 
 -- ---- the order of bytes
 
-first_two : (x y : ℕ) (xs ys : List ℕ) (o : Ordering) → std-orderings.nat_cmp x y ≡ o → ordering_then o (ranks xs ys) ≡ Equal → (ranks xs ys ≡ Equal → xs ≡ ys) → x ∷ xs ≡ y ∷ ys
+first_two : (x y : ℕ) (xs ys : List ℕ) (o : Ordering) → nat_cmp x y ≡ o → ordering_then o (ranks xs ys) ≡ Equal → (ranks xs ys ≡ Equal → xs ≡ ys) → x ∷ xs ≡ y ∷ ys
 first_two x y xs ys Less p h f = absurd (true≢false (ap is_lt h))
 first_two x y xs ys Equal p h f = λ i. eqb-true x y (sym (unsigned_tied x y) ∙ ap is_eq p) i ∷ f h i
 first_two x y xs ys Greater p h f = absurd (true≢false (ap is_gt h))
@@ -21,7 +20,7 @@ same_bytes : (a b : List ℕ) → ranks a b ≡ Equal → a ≡ b
 same_bytes [] [] h = refl
 same_bytes [] (y ∷ ys) h = absurd (true≢false (ap is_lt h))
 same_bytes (x ∷ xs) [] h = absurd (true≢false (ap is_gt h))
-same_bytes (x ∷ xs) (y ∷ ys) h = first_two x y xs ys (std-orderings.nat_cmp x y) refl h (same_bytes xs ys)
+same_bytes (x ∷ xs) (y ∷ ys) h = first_two x y xs ys (nat_cmp x y) refl h (same_bytes xs ys)
 
 pub bytewise : TotalOrder ranks
 bytewise = record { chain = (lists_total nat_cmp_total).trans; turn = (lists_total nat_cmp_total).antisymm; same = same_bytes }

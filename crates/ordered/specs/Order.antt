@@ -13,15 +13,14 @@ use Rattle.std.specs.declared.cmp.Ordering.TheVariants.{Less, Equal}
 use Rattle.std.specs.declared.cmp.Ordering.{Ordering}
 use Rattle.std.proofs.Math.Seq.{paste}
 use Rattle.std.specs.Cmp.Lexicographic.{slice_cmp}
-use Rattle.std.specs.Ordering.{is_lt, is_eq, ordering_reverse}
+use Rattle.std.specs.Ordering.{is_lt, is_eq, ordering_reverse, nat_cmp}
 use Rattle.std.specs.List.{insert}
 use Rattle.ordered.specs.declared.refusal.Refusal.{Refusal}
 use Rattle.ordered.specs.declared.refusal.Refusal.TheVariants.{Held, Full}
-use Rattle.std.specs.Ordering as std-orderings
 
 -- how two keys of bytes compare: byte by byte, and the shorter first where it begins the longer
 abbrev pub ranks : List ℕ → List ℕ → Ordering
-ranks a b = slice_cmp std-orderings.nat_cmp a b
+ranks a b = slice_cmp nat_cmp a b
 
 -- what the lemmas of this crate ask of an order, so that keys of any kind that has these laws can be used
 pub record TotalOrder {K : Type 0} (rank : K → K → Ordering) : Type 0 where

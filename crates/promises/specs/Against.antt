@@ -53,7 +53,7 @@ agree s t = blank s || (blank t || bytes_eq s t)
 
 -- own sender, then own receiver
 abbrev pub symbol_checks : ℕ → Bytes → Bytes → Bytes → Bytes → List Check
-symbol_checks n sender asSender receiver asReceiver = check (agree sender asSender) 64 n 100 ∷ check (agree receiver asReceiver) 64 n 135 ∷ []
+symbol_checks n sender as_sender receiver as_receiver = check (agree sender as_sender) 64 n 100 ∷ check (agree receiver as_receiver) 64 n 135 ∷ []
 
 -- a detail against the line that it names: 812 crosswise, 829 straight, 840 by the amount
 abbrev pub line_checks : SetId → DetailRead → LineHeld → List Check

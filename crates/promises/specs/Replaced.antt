@@ -52,7 +52,7 @@ NoOtherHas holds r = (p : Pair) → Contains (replaced_pairs holds r) p → Cont
 
 -- neither file is refused, and in the packets every verdict but the one at the place is the same
 abbrev pub SameBut : ℕ → Answer → Answer → Type 0
-SameBut place a a' = (p p' : Bytes) → a ≡ Ok p → a' ≡ Ok p' → (k : ℕ) → (k ≢ place) → verdict_at k p ≡ verdict_at k p'
+SameBut place a a' = (p p' : Bytes) → a ≡ Ok p → a' ≡ Ok p' → (k : ℕ) → k ≢ place → verdict_at k p ≡ verdict_at k p'
 
 abbrev pub handed : Bytes → ℕ → ℕ → Handed
 handed file day room = record { file = file; day = day; room = room }
@@ -97,7 +97,7 @@ PostLeavesUnlinked = (holds : Holds) (b : BookMeaning) (file file' : Bytes) (day
     All (λ t. Inside holds group t ⊎ Outside holds group t) (transactions (records r.rest)) →
     Enough b (file ∷ []) → Enough b (file' ∷ []) →
     (p p' : Bytes) → post_answer holds b (handed file day room) ≡ Ok p → post_answer holds b (handed file' day room') ≡ Ok p' →
-    (k : ℕ) (t : List Bytes) → (k ≢ place_of r) → slice_get (transactions_of file) k ≡ Some t → Outside holds group t → verdict_at k p ≡ verdict_at k p'
+    (k : ℕ) (t : List Bytes) → k ≢ place_of r → slice_get (transactions_of file) k ≡ Some t → Outside holds group t → verdict_at k p ≡ verdict_at k p'
 
 -- ---- of one book
 
@@ -112,4 +112,4 @@ UnlinkedLeftOn holds b = (file file' : Bytes) (day room room' : ℕ) (r : Replac
     All (λ t. Inside holds group t ⊎ Outside holds group t) (transactions (records r.rest)) →
     Enough b (file ∷ []) → Enough b (file' ∷ []) →
     (p p' : Bytes) → post_answer holds b (handed file day room) ≡ Ok p → post_answer holds b (handed file' day room') ≡ Ok p' →
-    (k : ℕ) (t : List Bytes) → (k ≢ place_of r) → slice_get (transactions_of file) k ≡ Some t → Outside holds group t → verdict_at k p ≡ verdict_at k p'
+    (k : ℕ) (t : List Bytes) → k ≢ place_of r → slice_get (transactions_of file) k ≡ Some t → Outside holds group t → verdict_at k p ≡ verdict_at k p'

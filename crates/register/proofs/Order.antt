@@ -1,13 +1,12 @@
 -- Keys in ascending order, as a search sees them.
 use Rattle.std.proofs.Common.{◌≡◌, Bool, true, false, ◌&&◌, ◌||◌, List, [], ◌∷◌, Ordering, Less, Equal, Greater, sym, refl, ap, ◌∙◌, true≢false}
 use Rattle.std.specs.Cmp.{unsigned_tied, nat_cmp_total}
-use Rattle.std.specs.Ordering.{is_lt, is_eq, is_gt, ordering_reverse, ordering_then}
+use Rattle.std.specs.Ordering.{is_lt, is_eq, is_gt, ordering_reverse, ordering_then, nat_cmp}
 use Rattle.std.specs.Str.{bytes_eq}
 use Rattle.std.proofs.lemmas.Bool.{and_parts, and_from}
 use Rattle.octets.specs.Classes.{Bytes}
 use Rattle.register.specs.Keys.{rank, leads, ascends, is_in}
 use Rattle.register.proofs.Search.{any, after, parted}
-use Rattle.std.specs.Ordering as std-orderings
 use Rattle.std.specs.Cmp.Lexicographic.{lists_total}
 
 -- where a key of the list stands to k
@@ -26,8 +25,8 @@ same_level [] (b ∷ k) = refl
 same_level (a ∷ x) [] = refl
 same_level (a ∷ x) (b ∷ k) =
     ap (λ t. t && bytes_eq x k) (sym (unsigned_tied a b))
-    ∙ ap (λ t. is_eq (std-orderings.nat_cmp a b) && t) (same_level x k)
-    ∙ sym (both_equal (std-orderings.nat_cmp a b) (rank x k))
+    ∙ ap (λ t. is_eq (nat_cmp a b) && t) (same_level x k)
+    ∙ sym (both_equal (nat_cmp a b) (rank x k))
 
 pub in_any : (xs : List Bytes) (k : Bytes) → is_in xs k ≡ any (standing k) xs
 in_any [] k = refl

@@ -2,16 +2,15 @@
 use Rattle.std.specs.Prelude.{ℕ, zero, suc, ◌/◌, ◌%◌, Bool, true, false, cond, not, ◌&&◌, ◌||◌, List, [], ◌∷◌, length, take, drop, is_ok, Ok, Err, Result, ◌==◌, nat_lt}
 use Rattle.std.specs.declared.cmp.Ordering.{Ordering}
 use Rattle.std.specs.Cmp.Lexicographic.{slice_cmp}
-use Rattle.std.specs.Ordering.{is_lt}
+use Rattle.std.specs.Ordering.{is_lt, nat_cmp}
 use Rattle.std.specs.Str.{bytes_eq}
 use Rattle.octets.specs.Classes.{Bytes}
 use Rattle.register.specs.declared.fault.TextFault.{TextFault}
 use Rattle.register.specs.declared.fault.TextFault.TheVariants.{Width, Order}
-use Rattle.std.specs.Ordering as std-orderings
 
 -- how two keys compare, byte by byte
 abbrev pub rank : Bytes → Bytes → Ordering
-rank a b = slice_cmp std-orderings.nat_cmp a b
+rank a b = slice_cmp nat_cmp a b
 
 -- the first n keys of w bytes
 abbrev pub cut : ℕ → ℕ → Bytes → List Bytes

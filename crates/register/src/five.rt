@@ -12,7 +12,7 @@ pub trait Registers {
 
     fn has(&self, which: Lookup, key: &[u8]) -> bool
         ensures answer { result ≡ holds self.now which key.now }
-        ensures unchanged { self.now ≡ self.now };
+        ensures unchanged { self.exit.now ≡ self.entry.now };
 }
 
 // Five registers, each of a make of its own.

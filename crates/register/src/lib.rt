@@ -16,5 +16,5 @@ pub trait Register {
 
     fn has(&self, key: &[u8]) -> bool
         ensures answer { result ≡ keys self.now key.now }
-        ensures unchanged { self.now ≡ self.now };
+        ensures unchanged { self.exit.now ≡ self.entry.now };
 }
