@@ -1,7 +1,7 @@
 -- Where the next header stands.
-use Rattle.std.proofs.Common.{◌≡◌, ℕ, suc, ◌+◌, ◌-◌, ◌<◌, ◌≤◌, min, Bool, true, false, cond, ◌&&◌, eqb, List, [], ◌∷◌, length, take, drop, sym, refl, ap, ◌∙◌, ⊎_elim, not-suc-le-zero, arith}
-use Rattle.std.proofs.lemmas.List.{at_drop_all, drop_all, drop-drop, length-drop, take_rest}
-use Rattle.std.proofs.lemmas.Bool.{and_parts, cases_lt, eqb-true}
+use Rattle.std.proofs.Common.{◌≡◌, ℕ, suc, ◌+◌, ◌-◌, ◌<◌, min, Bool, true, false, cond, ◌&&◌, eqb, List, [], ◌∷◌, length, take, drop, sym, refl, ap, ◌∙◌, not-suc-le-zero, arith}
+use Rattle.std.proofs.lemmas.List.{length-drop, take_rest}
+use Rattle.std.proofs.lemmas.Bool.{and_parts, eqb-true}
 use Rattle.octets.specs.Classes.{Bytes}
 use Rattle.file.specs.Lengths.{line_len, header_after}
 use Rattle.file.proofs.Lines.{records_line, first_is}
@@ -35,32 +35,21 @@ begins_some : (xs : Bytes) → begins 72 xs ≡ true → 0 < length xs
 begins_some [] h = let z : ◌≡◌ {A = Bool} true false = sym h in let w : ◌≡◌ {A = ℕ} 0 1 = cc in omega arith
 begins_some (b ∷ bs) h = omega arith
 
--- the record at p, and what stands behind it from e on
-module _ (xs : Bytes) (p e : ℕ) (h : p ≤ length xs) (is : e ≡ p + min (suc (line_len (drop p xs))) (length xs - p)) where
-  past_is : drop e xs ≡ drop (suc (line_len (drop p xs))) (drop p xs)
-  past_is =
-      let n : ℕ = suc (line_len (drop p xs)) in
-      ⊎_elim
-      (λ (k : length xs < p + n). drop_all e xs (omega arith) ∙ sym (drop-drop n p xs ∙ drop_all (p + n) xs (omega arith)))
-      (λ (k : p + n ≤ length xs). ap (λ m. drop m xs) (omega arith) ∙ sym (drop-drop n p xs))
-      (cases_lt (length xs) (p + n))
-
-  pub past_stop : (r : ℕ) → begins 72 (drop e xs) ≡ true → p + header_after (drop p xs) ≡ r → e ≡ r
-  past_stop r t inv =
-      let k = header_stop (drop p xs) (ap (begins 72) (sym past_is) ∙ t) in
-      let l = begins_some (drop e xs) t in
-      let m = length-drop e xs in
+-- what is left, ys, behind the first record of xs
+module _ (xs ys : Bytes) (behind : ys ≡ drop (suc (line_len xs)) xs) where
+  pub left_stop : begins 72 ys ≡ true → header_after xs + length ys ≡ length xs
+  left_stop t =
+      let k = header_stop xs (ap (begins 72) (sym behind) ∙ t) in
+      let l = begins_some ys t in
+      let m : length ys ≡ length xs - suc (line_len xs) = ap length behind ∙ length-drop (suc (line_len xs)) xs in
       omega arith
 
-  pub past_more : (r : ℕ) → begins 72 (drop e xs) ≡ false → p + header_after (drop p xs) ≡ r → e + header_after (drop e xs) ≡ r
-  past_more r t inv =
-      let k = header_more (drop p xs) (ap (begins 72) (sym past_is) ∙ t) in
-      let l = length-drop p xs in
-      let m : header_after (drop e xs) ≡ header_after (drop (suc (line_len (drop p xs))) (drop p xs)) = ap header_after past_is in
+  pub left_more : begins 72 ys ≡ false → header_after xs + length ys ≡ length xs + header_after ys
+  left_more t =
+      let k = header_more xs (ap (begins 72) (sym behind) ∙ t) in
+      let l = ap header_after behind in
+      let m : length ys ≡ length xs - suc (line_len xs) = ap length behind ∙ length-drop (suc (line_len xs)) xs in
       omega arith
-
-pub past_end : (xs : Bytes) (p r : ℕ) → length xs ≤ p → p + header_after (drop p xs) ≡ r → p ≡ r
-past_end xs p r h inv = let z : header_after (drop p xs) ≡ 0 = at_drop_all header_after xs p h in omega arith
 
 -- what stands before the next header, and from it on
 pub record Cut (xs : Bytes) : Type 0 where

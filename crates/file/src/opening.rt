@@ -5,7 +5,7 @@ ghost use Rattle.file.specs.Records.{records, begins, is_header};
 
 use crate::records::Records;
 use crate::transactions::begins_header;
-use octets::class::{Digit, every, is_same, is_type_a};
+use octets::class::{Digit, every, is_type_a};
 use octets::part::columns_of;
 use octets::value::number_at;
 
@@ -15,29 +15,23 @@ const LONGEST: usize = 16_777_216;
 // Why a file is refused before its transactions are looked at.
 #[derive(Clone, Copy, PartialEq, Eq, Debug)]
 pub enum OpeningFault {
-    TooLong,
-    NoEnd,
-    NoIdentifier,
-    BadBatchHeader,
-    NoTransaction,
+    TooLong = 1,
+    NoEnd = 2,
+    NoIdentifier = 3,
+    BadBatchHeader = 4,
+    NoTransaction = 5,
 }
 
 impl OpeningFault {
     pub fn code(self) -> u16
         ensures { result ≡ code_of self }
     {
-        match self {
-            OpeningFault::TooLong => 1,
-            OpeningFault::NoEnd => 2,
-            OpeningFault::NoIdentifier => 3,
-            OpeningFault::BadBatchHeader => 4,
-            OpeningFault::NoTransaction => 5,
-        }
+        self as u16
     }
 }
 
 // The File ID Number, under which a book marks the file, and the number of records that the file states.
-#[derive(Clone, Copy)]
+#[derive(Clone, Copy, PartialEq, Eq, Debug)]
 pub struct Opening {
     pub id: [u8; 19],
     pub stated: u32,
@@ -46,15 +40,14 @@ pub struct Opening {
 fn ends_in_feed(file: &[u8]) -> bool
     ensures { result ≡ ends_in_feed file.now }
 {
-    let n = file.len();
-    n > 0 && file[n - 1] == b'\n'
+    file.last() == Some(&b'\n')
 }
 
 fn is_batch_header(record: &[u8]) -> bool
     ensures { result ≡ is_batch_header «record».now }
 {
     record.len() == 32
-        && is_same(columns_of(record, 1, 5), b"BIPAC")
+        && columns_of(record, 1, 5) == b"BIPAC".as_slice()
         && every::<Digit>(columns_of(record, 6, 8))
         && is_type_a(columns_of(record, 14, 19))
 }
@@ -87,10 +80,8 @@ fn opened_by(batch_header: &[u8]) -> Opening
     requires { length batch_header.now ≡ 32 }
     ensures { result ≡ opened batch_header.now }
 {
-    let mut id = [0; 19];
-    id.copy_from_slice(columns_of(batch_header, 14, 19));
     Opening {
-        id,
+        id: *columns_of(batch_header, 14, 19).as_array().unwrap(),
         stated: number_at(batch_header, 6, 8) as u32,
     }
 }
@@ -107,7 +98,7 @@ impl Opening {
             return Err(OpeningFault::NoEnd);
         }
         let top = top_of(file);
-        if !is_same(top.identifier, b"PCA    ") {
+        if top.identifier != b"PCA    ".as_slice() {
             return Err(OpeningFault::NoIdentifier);
         }
         if !is_batch_header(top.batch_header) {

@@ -3,40 +3,31 @@ use crate::opening::{Opening, body};
 use crate::records::Records;
 use crate::tally::{Found, Tally};
 use crate::transactions::Transactions;
-use octets::class::is_same;
 use std::test::Fail;
 
-// Whether each of the files is refused with the code; 0 stands for a good opening.
-fn each_gets(code: u16, files: &[&[u8]]) -> bool {
-    let mut all = true;
-    for file in files {
-        let got = match Opening::of(file) {
-            Ok(_) => 0,
-            Err(fault) => fault.code(),
-        };
-        all = all & (got == code);
-    }
-    all
+// Whether each of the files is refused with the code, or opens well where there is none.
+fn each_gets(code: Option<u16>, files: &[&[u8]]) -> bool {
+    files.iter().all(|file| Opening::of(file).err().map(|fault| fault.code()) == code)
 }
 
 #[test]
 fn good_opening(rt: HostRuntime) -> Result<(), Fail> {
     let opening = Opening::of(b"PCA    \nBIPAC000000040000123420260105001\nH\n")?;
     assert_eq!(rt; opening.stated, 4);
-    assert!(rt; is_same(&opening.id, b"0000123420260105001"));
+    assert_eq!(rt; &opening.id, b"0000123420260105001");
     Ok(())
 }
 
 #[test]
 fn spaces_may_end_the_file_id(rt: HostRuntime) {
-    assert!(rt; each_gets(0, &[b"PCA    \nBIPAC99999999a file of mine     \nH\n"]));
+    assert!(rt; each_gets(None, &[b"PCA    \nBIPAC99999999a file of mine     \nH\n"]));
 }
 
 #[test]
 fn files_without_an_end(rt: HostRuntime) {
     assert!(rt;
         each_gets(
-            2,
+            Some(2),
             &[
                 b"",
                 b"PCA    ",
@@ -51,7 +42,7 @@ fn files_without_an_end(rt: HostRuntime) {
 fn bad_first_records(rt: HostRuntime) {
     assert!(rt;
         each_gets(
-            3,
+            Some(3),
             &[
                 b"\n",
                 b"PCA   \n",
@@ -66,7 +57,7 @@ fn bad_first_records(rt: HostRuntime) {
 fn bad_second_records(rt: HostRuntime) {
     assert!(rt;
         each_gets(
-            4,
+            Some(4),
             &[
                 b"PCA    \n",
                 b"PCA    \nBIPAC00000004000012342026010500\nH\n",
@@ -85,7 +76,7 @@ fn bad_second_records(rt: HostRuntime) {
 fn bad_third_records(rt: HostRuntime) {
     assert!(rt;
         each_gets(
-            5,
+            Some(5),
             &[
                 b"PCA    \nBIPAC000000040000123420260105001\n",
                 b"PCA    \nBIPAC000000040000123420260105001\n\n",
@@ -104,9 +95,9 @@ fn walks_a_file(rt: HostRuntime) -> Result<(), Fail> {
     assert_eq!(rt; found.transactions, 2);
     let mut transactions = Transactions::of(body(file));
     let first = transactions.next().ok_or("no first transaction")?;
-    assert!(rt; is_same(first, b"H1\nD1\nE1\n\n"));
+    assert_eq!(rt; first, b"H1\nD1\nE1\n\n".as_slice());
     let second = transactions.next().ok_or("no second transaction")?;
-    assert!(rt; is_same(second, b"H2\nx\n"));
+    assert_eq!(rt; second, b"H2\nx\n".as_slice());
     assert!(rt; transactions.next().is_none());
     let tally = Tally::of(first);
     assert_eq!(rt; tally.records, 4);
@@ -118,9 +109,9 @@ fn walks_a_file(rt: HostRuntime) -> Result<(), Fail> {
 #[test]
 fn walks_records(rt: HostRuntime) {
     let mut records = Records::of(b"H1\n\nD1");
-    assert!(rt; is_same(records.next_line(2).bytes(), b"H1"));
-    assert!(rt; is_same(records.next_line(2).bytes(), b""));
-    assert!(rt; is_same(records.rest(), b"D1"));
-    assert!(rt; is_same(records.next_line(9).bytes(), b"D1"));
+    assert_eq!(rt; records.next_line(2).bytes(), b"H1".as_slice());
+    assert_eq!(rt; records.next_line(2).bytes(), b"".as_slice());
+    assert_eq!(rt; records.rest(), b"D1".as_slice());
+    assert_eq!(rt; records.next_line(9).bytes(), b"D1".as_slice());
     assert!(rt; records.is_done());
 }

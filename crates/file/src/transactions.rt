@@ -1,33 +1,16 @@
 // The transactions of a text, one after the other.
-ghost use Rattle.std.specs.Prelude.{◌≡◌, suc, ◌+◌, ◌-◌, ◌<◌, ◌≤◌, min, true, [], ◌∷◌, length, drop, MatchOption};
-ghost use Rattle.file.specs.Lengths.{line_len, header_after};
+ghost use Rattle.std.specs.Prelude.{◌≡◌, ◌<◌, ◌≤◌, true, [], ◌∷◌, length, MatchOption};
+ghost use Rattle.file.specs.Lengths.{header_after};
 ghost use Rattle.file.specs.Records.{records, begins, transactions};
 ghost use Rattle.std.specs.Iterator.{at_most};
 
-use crate::feed::line_len;
+use crate::records::{Records, begins};
 
 // Whether the first record is a header.
 pub fn begins_header(text: &[u8]) -> bool
     ensures { result ≡ begins 72 text.now }
 {
-    match text {
-        [] => false,
-        [first, ..] => *first as char == 'H',
-    }
-}
-
-// Past the record that starts at `at`, and its line feed.
-fn past_line(text: &[u8], at: usize) -> usize
-    requires { at ≤ length text.now }
-    ensures { result ≡ at + min (suc (line_len (drop at text.now))) (length text.now - at) }
-{
-    let rest = &text[at..];
-    let line = line_len(rest);
-    if line < rest.len() {
-        at + line + 1
-    } else {
-        text.len()
-    }
+    begins(text, b'H')
 }
 
 // How many bytes stand before the next header.
@@ -35,14 +18,15 @@ fn before_header(text: &[u8]) -> usize
     ensures value { result ≡ header_after text.now }
     ensures within { result ≤ length text.now }
 {
-    let mut at = 0;
-    while at < text.len() {
-        at = past_line(text, at);
-        if begins_header(&text[at..]) {
-            return at;
+    let mut left = Records::of(text);
+    // By `next_line`, and not `next`: bytes are counted here, and `next` promises which record came, not how many bytes it took.
+    while !left.is_done() {
+        left.next_line(0);
+        if begins_header(left.rest()) {
+            return text.len() - left.rest().len();
         }
     }
-    at
+    text.len()
 }
 
 // The text from its first header on.
@@ -59,7 +43,7 @@ fn from_header(text: &[u8]) -> &[u8]
 }
 
 // The transactions that are still to be read, each as its bytes. It copies nothing.
-#[derive(Clone, Copy)]
+#[derive(Clone, Copy, PartialEq, Eq, Debug)]
 pub struct Transactions<'a> {
     rest: &'a [u8],
 }

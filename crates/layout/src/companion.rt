@@ -23,7 +23,8 @@ impl Rule {
 }
 
 // A row of a layout's companion rules: the field that is refused, by its first column and its length, the rule, and the other field.
-#[derive(Clone, Copy)]
+// A tuple that is read by methods: with named fields a row would take seven lines, and a constant may call no function.
+#[derive(Clone, Copy, PartialEq, Eq, Debug)]
 pub struct Companion(
     pub(crate) usize,
     pub(crate) usize,

@@ -4,7 +4,7 @@ ghost use Rattle.layout.specs.Fields.{start_of, len_of, is_required, kind_of, re
 
 use crate::set_id::SetId;
 
-#[derive(Clone, Copy)]
+#[derive(Clone, Copy, PartialEq, Eq, Debug)]
 pub enum Kind {
     // Type A: printable, and the first no space.
     Text,
@@ -16,14 +16,14 @@ pub enum Kind {
     Filler,
     // An account symbol of 27 bytes.
     Symbol,
-    // One of the two letters that the layout quotes. A letter that it quotes alone stands twice.
+    // One of the two letters that the layout quotes. A letter that it quotes alone stands twice: so the rows say it, all of one length.
     OneOf([u8; 2]),
-    // The Set ID, one of those that the layout is for.
+    // The Set ID, one of those that the layout is for. One that stands alone is said twice, as a letter is.
     OneSet(SetId, SetId),
 }
 
-// The register that a field is looked up in.
-#[derive(Clone, Copy)]
+// The register that a field is looked up in. Free is one of them, and no `None` beside an enum of registers: the tables' rows stay short and say the same.
+#[derive(Clone, Copy, PartialEq, Eq, Debug)]
 pub enum Lookup {
     // None.
     Free,
@@ -36,7 +36,8 @@ pub enum Lookup {
 }
 
 // A row of a layout's table: first column, length, whether it is required, kind, register.
-#[derive(Clone, Copy)]
+// A tuple that is read by methods: with named fields a row would take seven lines, and a constant may call no function.
+#[derive(Clone, Copy, PartialEq, Eq, Debug)]
 pub struct Field(
     pub(crate) usize,
     pub(crate) usize,

@@ -2,17 +2,16 @@
 ghost use Rattle.std.specs.Prelude.{◌≡◌};
 ghost use Rattle.layout.specs.SetIds.{number_of, set_id_of, set_id_in};
 
-use octets::class::is_same;
 use octets::part::columns_of;
 
 #[derive(Clone, Copy, PartialEq, Eq, Debug)]
 pub enum SetId {
-    Payment,
-    Collection,
-    ReceiverAdjustment,
-    SenderAdjustment,
-    ZeroDollar,
-    PostSgl,
+    Payment = 820,
+    Collection = 810,
+    ReceiverAdjustment = 812,
+    SenderAdjustment = 829,
+    ZeroDollar = 835,
+    PostSgl = 840,
 }
 
 impl SetId {
@@ -20,20 +19,14 @@ impl SetId {
     pub fn of(digits: &[u8]) -> Option<SetId>
         ensures { result ≡ set_id_of digits.now }
     {
-        if is_same(digits, b"820") {
-            Some(SetId::Payment)
-        } else if is_same(digits, b"810") {
-            Some(SetId::Collection)
-        } else if is_same(digits, b"812") {
-            Some(SetId::ReceiverAdjustment)
-        } else if is_same(digits, b"829") {
-            Some(SetId::SenderAdjustment)
-        } else if is_same(digits, b"835") {
-            Some(SetId::ZeroDollar)
-        } else if is_same(digits, b"840") {
-            Some(SetId::PostSgl)
-        } else {
-            None
+        match digits {
+            b"820" => Some(SetId::Payment),
+            b"810" => Some(SetId::Collection),
+            b"812" => Some(SetId::ReceiverAdjustment),
+            b"829" => Some(SetId::SenderAdjustment),
+            b"835" => Some(SetId::ZeroDollar),
+            b"840" => Some(SetId::PostSgl),
+            _ => None,
         }
     }
 
@@ -47,13 +40,6 @@ impl SetId {
     pub fn number(self) -> u16
         ensures { result ≡ number_of self }
     {
-        match self {
-            SetId::Payment => 820,
-            SetId::Collection => 810,
-            SetId::ReceiverAdjustment => 812,
-            SetId::SenderAdjustment => 829,
-            SetId::ZeroDollar => 835,
-            SetId::PostSgl => 840,
-        }
+        self as u16
     }
 }

@@ -204,5 +204,3 @@ pub const ZERO_DOLLAR_COMPANIONS: [Companion; 4] = [
     Companion(1032, 15, Rule::Excludes, 988, 9), // DOD Activity Address Code, Sender DUNS Number
     Companion(1032, 15, Rule::Excludes, 997, 4), // DOD Activity Address Code, Sender DUNS+4 Number
 ];
-
-pub const NO_COMPANIONS: [Companion; 0] = [];

@@ -1,23 +1,12 @@
 -- A loop that joins a test of each element.
-use Rattle.std.proofs.Common.{◌≡◌, ℕ, zero, suc, ◌+◌, ◌<◌, ◌≤◌, Bool, true, false, not, ◌&&◌, ◌||◌, List, [], ◌∷◌, length, get_or, take, drop, sym, refl, ap, ◌∙◌, not-suc-le-zero}
-use mathlib.Core.Bool.{and_assoc, and-true}
-use Rattle.std.proofs.lemmas.List.{at_drop_more, at_drop_all}
-use Rattle.std.proofs.lemmas.Bool.{and_parts, and_from, and_left}
+use Rattle.std.proofs.Common.{◌≡◌, ℕ, zero, suc, ◌≤◌, Bool, true, false, not, ◌&&◌, ◌||◌, List, [], ◌∷◌, length, take, drop, sym, refl, ap, ◌∙◌}
+use mathlib.Core.Bool.{and-true}
+use Rattle.std.proofs.lemmas.List.{at_drop_all}
+use Rattle.std.proofs.lemmas.Bool.{and_parts, and_from}
 use Rattle.octets.specs.Classes.{all}
 
-module _ (p : ℕ → Bool) (xs : List ℕ) (i : ℕ) (ok : Bool) where
-  pub join_more : (t r : Bool) → i < length xs → t ≡ p (get_or xs i 0) → (ok && all p (drop i xs)) ≡ r → (ok && t && all p (drop (i + 1) xs)) ≡ r
-  join_more t r h is inv =
-      let e : all p (drop i xs) ≡ (p (get_or xs i 0) && all p (drop (i + 1) xs)) = at_drop_more (all p) xs i 0 h in
-      and_assoc ok t (all p (drop (i + 1) xs)) ∙ ap (λ b. ok && (b && all p (drop (i + 1) xs))) is ∙ ap (λ b. ok && b) (sym e) ∙ inv
-
-  pub join_end : (r : Bool) → length xs ≤ i → (ok && all p (drop i xs)) ≡ r → ok ≡ r
-  join_end r h inv = sym (and-true ok) ∙ ap (λ b. ok && b) (sym (at_drop_all (all p) xs i h)) ∙ inv
-
--- the first element fails
-pub all_head : (p : ℕ → Bool) (xs : List ℕ) → 0 < length xs → p (get_or xs 0 0) ≡ false → false ≡ all p xs
-all_head p [] h t = absurd (not-suc-le-zero h)
-all_head p (x ∷ xs) h t = sym (and_left (p x) (all p xs) t)
+pub join_end : (p : ℕ → Bool) (xs : List ℕ) (i : ℕ) (ok r : Bool) → length xs ≤ i → (ok && all p (drop i xs)) ≡ r → ok ≡ r
+join_end p xs i ok r h inv = sym (and-true ok) ∙ ap (λ b. ok && b) (sym (at_drop_all (all p) xs i h)) ∙ inv
 
 pub all_drop : (p : ℕ → Bool) (n : ℕ) (xs : List ℕ) → all p xs ≡ true → all p (drop n xs) ≡ true
 all_drop p zero xs t = t

@@ -1,8 +1,10 @@
 -- A test of each element, part by part.
-use Rattle.std.proofs.Common.{◌≡◌, ℕ, zero, suc, ◌+◌, ◌-◌, ◌≤◌, Bool, true, false, ◌&&◌, List, [], ◌∷◌, length, take, drop, sym, refl, ap, ◌∙◌, arith}
+use Rattle.std.proofs.Common.{◌≡◌, ℕ, zero, suc, ◌+◌, ◌-◌, ◌*◌, ◌≤◌, Bool, true, false, ◌&&◌, List, [], ◌∷◌, length, take, drop, sym, refl, ap, ◌∙◌, suc-mul, zero-mul, arith}
 use mathlib.Core.Bool.{and_assoc}
 use Rattle.std.proofs.lemmas.List.{drop-drop, take_rest}
 use Rattle.std.proofs.lemmas.Bool.{and_parts, and_right}
+use Rattle.std.specs.List.{list_all}
+use Rattle.std.specs.Simd.{first_chunks}
 use Rattle.octets.specs.Classes.{all}
 
 pub all_split : (p : ℕ → Bool) (n : ℕ) (xs : List ℕ) → all p xs ≡ (all p (take n xs) && all p (drop n xs))
@@ -10,13 +12,18 @@ all_split p zero xs = refl
 all_split p (suc n) [] = refl
 all_split p (suc n) (x ∷ xs) = ap (λ b. p x && b) (all_split p n xs) ∙ sym (and_assoc (p x) (all p (take n xs)) (all p (drop n xs)))
 
--- a block of n elements at k
-pub block_more : (p : ℕ → Bool) (n k : ℕ) (xs : List ℕ) (r : Bool) → all p (take (k + n - k) (drop k xs)) ≡ true → all p (drop k xs) ≡ r → all p (drop (k + n) xs) ≡ r
-block_more p n k xs r t inv =
-    let size : k + n - k ≡ n = omega arith in
-    let u : all p (take n (drop k xs)) ≡ true = ap (λ m. all p (take m (drop k xs))) (sym size) ∙ t in
-    let e : all p (drop k xs) ≡ (all p (take n (drop k xs)) && all p (drop (k + n) xs)) = all_split p n (drop k xs) ∙ ap (λ l. all p (take n (drop k xs)) && all p l) (drop-drop n k xs) in
-    sym (e ∙ ap (λ b. b && all p (drop (k + n) xs)) u) ∙ inv
+-- what stands in the first k blocks of n elements, and behind them
+all_blocks : (p : ℕ → Bool) (n k : ℕ) (xs : List ℕ) → all p xs ≡ (list_all (all p) (first_chunks n k xs) && all p (drop (k * n) xs))
+all_blocks p n zero xs = rw zero-mul
+all_blocks p n (suc k) xs =
+    let past : n + k * n ≡ suc k * n = omega (arith, suc-mul k n) in
+    all_split p n xs
+    ∙ ap (λ b. all p (take n xs) && b) (all_blocks p n k (drop n xs) ∙ ap (λ l. list_all (all p) (first_chunks n k (drop n xs)) && all p l) (drop-drop (k * n) n xs ∙ ap (λ m. drop m xs) past))
+    ∙ sym (and_assoc (all p (take n xs)) (list_all (all p) (first_chunks n k (drop n xs))) (all p (drop (suc k * n) xs)))
+
+-- the same as the code has it
+pub by_blocks : (p : ℕ → Bool) (n k : ℕ) (xs rest : List ℕ) (blocks : List (List ℕ)) (r : Bool) → blocks ≡ first_chunks n k xs → rest ≡ drop (k * n) xs → r ≡ list_all (all p) blocks → all p xs ≡ (r && all p rest)
+by_blocks p n k xs rest blocks r is behind tested = rw (tested, is, behind) (all_blocks p n k xs)
 
 -- what is left decides, and so does more of it
 pub between_both : (a x t u : Bool) → a ≡ (t && x) → x ≡ (u && a) → x ≡ a

@@ -1,7 +1,7 @@
 -- The number that digits write, digit after digit.
 use Rattle.std.proofs.Common.{◌≡◌, ℕ, suc, ◌+◌, ◌*◌, ◌^◌, ◌<◌, ◌≤◌, ◌∷◌, length, get_or, drop, sym, ap, ◌∙◌, mul_assoc, add-mul, pow-suc, add-one, arith}
 use native.Mathlib.Nat.{pow-le-pow_right}
-use Rattle.std.proofs.lemmas.List.{at_drop_more, at_drop_all}
+use Rattle.std.proofs.lemmas.List.{at_drop_more}
 use Rattle.octets.specs.Classes.{Bytes}
 use Rattle.octets.specs.Values.{value_of, digit_of}
 
@@ -21,9 +21,6 @@ onward_more n b bs =
 module _ (xs : Bytes) (i n d r : ℕ) where
   pub value_more : i < length xs → d ≡ digit_of (get_or xs i 0) → onward n (drop i xs) ≡ r → onward (n * 10 + d) (drop (i + 1) xs) ≡ r
   value_more h e inv = rw e (sym (at_drop_more (onward n) xs i 0 h ∙ onward_more n (get_or xs i 0) (drop (i + 1) xs)) ∙ inv)
-
-pub value_all : (xs : Bytes) (i n r : ℕ) → length xs ≤ i → onward n (drop i xs) ≡ r → n ≡ r
-value_all xs i n r h inv = let e : onward n (drop i xs) ≡ n * 1 + 0 = at_drop_all (onward n) xs i h in omega arith
 
 pub room : (n i m : ℕ) → n < 10 ^ i → i ≤ m → n < 10 ^ m
 room n i m h k = let p : 10 ^ i ≤ 10 ^ m = pow-le-pow_right (omega arith) k in omega arith

@@ -3,13 +3,14 @@ ghost use Rattle.std.specs.Prelude.{◌≡◌, true, not, ◌||◌};
 ghost use Rattle.octets.specs.Classes.{all, is_printable, type_a};
 ghost use Rattle.octets.specs.Parts.{columns};
 
-use crate::class::{Printable, each, every};
+use crate::class::{Printable, each, every, starts_by_space};
 use crate::part::columns_of;
 
 // What one pass over a record has shown is kept, so that its text fields need only their first byte.
-#[derive(Clone, Copy)]
+#[derive(Clone, Copy, Debug)]
 pub struct Line<'a> {
     bytes: &'a [u8],
+    // a flag, and no Option: the bytes are there either way
     printable: bool,
     ghost known: { (not printable || all is_printable bytes.now) ≡ true },
 }
@@ -63,13 +64,10 @@ impl<'a> Line<'a> {
         self.is_known_printable() || every::<Printable>(self.bytes)
     }
 
+    #[inline]
     pub fn is_type_a(self) -> bool
         ensures { result ≡ type_a self.entry.bytes.now }
     {
-        let bytes = self.bytes;
-        if bytes.len() > 0 && bytes[0] == b' ' {
-            return false;
-        }
-        self.is_printable()
+        !starts_by_space(self.bytes) && self.is_printable()
     }
 }

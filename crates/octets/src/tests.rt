@@ -1,5 +1,4 @@
 // Numbers of 14 and of 18 digits, and columns past the end of a record.
-use crate::class::is_same;
 use crate::part::columns_of;
 use crate::value::number_at;
 
@@ -21,9 +20,9 @@ fn numbers(rt: HostRuntime) {
 
 #[test]
 fn columns_past_the_end(rt: HostRuntime) {
-    assert!(rt; is_same(columns_of(b"HDE", 2, 2), b"DE"));
-    assert!(rt; is_same(columns_of(b"HDE", 3, 2), b"E"));
-    assert!(rt; is_same(columns_of(b"HDE", 4, 2), b""));
+    assert_eq!(rt; columns_of(b"HDE", 2, 2), b"DE".as_slice());
+    assert_eq!(rt; columns_of(b"HDE", 3, 2), b"E".as_slice());
+    assert_eq!(rt; columns_of(b"HDE", 4, 2), b"".as_slice());
     assert_eq!(rt; number_at(b"12", 2, 5), 2);
     assert_eq!(rt; number_at(b"12", 9, 5), 0);
 }

@@ -8,14 +8,14 @@ use crate::part::columns_of;
 // The longest field whose number every u64 holds.
 const MOST: usize = 18;
 
+// 0, and no None, for a byte that is no digit, as the definition says: a field is read without a second look.
 fn digit_of(b: u8) -> u64
     ensures value { result ≡ digit_of b }
     ensures small { result ≤ 9 }
 {
-    if b'0' <= b && b <= b'9' {
-        (b - b'0') as u64
-    } else {
-        0
+    match b {
+        b'0'..=b'9' => u64::from(b - b'0'),
+        _ => 0,
     }
 }
 
@@ -25,7 +25,7 @@ fn value_of(digits: &[u8]) -> u64
     ensures value { result ≡ value_of digits.now }
     ensures below { result < 10 ^ length digits.now }
 {
-    let mut n: u64 = 0;
+    let mut n = 0;
     for b in digits {
         n = n * 10 + digit_of(*b);
     }

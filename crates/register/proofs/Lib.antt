@@ -1,4 +1,4 @@
-mod Bits
+mod Neighbours
 mod Order
 mod Search
 mod Texts

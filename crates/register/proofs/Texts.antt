@@ -1,30 +1,10 @@
 -- Keys cut from a text, one after the other.
-use Rattle.std.proofs.Common.{◌≡◌, ℕ, zero, suc, ◌+◌, ◌-◌, ◌*◌, ◌<◌, ◌≤◌, Bool, true, ◌&&◌, ◌∷◌, ◌++◌, take, drop, Ordering, Less, Equal, Greater, sym, refl, ap, ◌∙◌, not-suc-le-zero, suc-mul, add-mul, one-mul, zero-mul, arith}
-use Rattle.std.specs.Ordering.{is_lt}
+use Rattle.std.proofs.Common.{◌≡◌, ℕ, zero, suc, ◌+◌, ◌-◌, ◌*◌, ◌<◌, ◌≤◌, Bool, true, ◌∷◌, ◌++◌, take, drop, Ordering, Less, Equal, Greater, sym, ap, ◌∙◌, not-suc-le-zero, suc-mul, add-mul, one-mul, zero-mul, arith}
 use Rattle.std.proofs.lemmas.List.{drop-drop}
 use Rattle.std.proofs.lemmas.Bool.{and_parts}
 use Rattle.octets.specs.Classes.{Bytes}
-use Rattle.register.specs.Keys.{rank, cut, ascends}
+use Rattle.register.specs.Keys.{cut}
 use Rattle.register.proofs.Search.{any, parted, parted_front, parted_back, row_less, row_equal, row_greater}
-
--- room for two keys, and for the others behind the first
-pub room_two : (n w m : ℕ) → 1 < n → n * w ≤ m → (w + w ≤ m) × ((n - 1) * w + w ≤ m)
-room_two zero w m h k = absurd (not-suc-le-zero h)
-room_two (suc zero) w m h k = absurd (omega arith)
-room_two (suc (suc n)) w m h k =
-    let e : suc (suc n) * w ≡ suc n * w + w = suc-mul (suc n) w in
-    let f : suc n * w ≡ n * w + w = suc-mul n w in
-    let z : suc (suc n) - 1 ≡ suc n = omega arith in (omega arith, rw z (omega arith))
-
-pub ascends_more : (n w : ℕ) (text : Bytes) → 1 < n → ascends (cut n w text) ≡ (is_lt (rank (take w text) (take w (drop w text))) && ascends (cut (n - 1) w (drop w text)))
-ascends_more zero w text h = absurd (not-suc-le-zero h)
-ascends_more (suc zero) w text h = absurd (omega arith)
-ascends_more (suc (suc n)) w text h = let z : suc (suc n) - 1 ≡ suc n = omega arith in rw z
-
-pub ascends_end : (n w : ℕ) (text : Bytes) → n ≤ 1 → ascends (cut n w text) ≡ true
-ascends_end zero w text h = refl
-ascends_end (suc zero) w text h = refl
-ascends_end (suc (suc n)) w text h = absurd (omega arith)
 
 -- the key at m parts the keys
 pub cut_at : (m n w : ℕ) (text : Bytes) → m < n → cut n w text ≡ cut m w text ++ (take w (drop (m * w) text) ∷ cut (n - m - 1) w (drop w (drop (m * w) text)))

@@ -31,14 +31,10 @@ fn has_bit(byte: u8, k: usize) -> bool
 fn has_account(bits: &[u8], n: usize) -> bool
     ensures { result ≡ bit_at bits.now n }
 {
-    let at = n / 8;
-    if at >= bits.len() {
-        return false;
-    }
-    has_bit(bits[at], n % 8)
+    bits.get(n / 8).is_some_and(|byte| has_bit(*byte, n % 8))
 }
 
-#[derive(Clone, Copy)]
+#[derive(Clone, Copy, PartialEq, Eq, Debug)]
 pub struct BitMap<'a> {
     bits: &'a [u8],
 }
@@ -51,7 +47,7 @@ impl<'a> BitMap<'a> {
     {
         match check_map(bits) {
             Ok(()) => BitMap { bits },
-            Err(_) => BitMap { bits: &bits[0..0] },
+            Err(_) => BitMap { bits: &[] },
         }
     }
 }
@@ -61,9 +57,8 @@ impl<'a> Register for BitMap<'a> {
 
     // Only keys of four digits are in a map.
     fn has(&self, key: &[u8]) -> bool {
-        if key.len() != 4 || !each::<Digit>(key) {
-            return false;
-        }
-        has_account(self.bits, number_at(key, 1, 4) as usize)
+        key.len() == 4
+            && each::<Digit>(key)
+            && has_account(self.bits, number_at(key, 1, 4) as usize)
     }
 }

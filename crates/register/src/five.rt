@@ -16,7 +16,7 @@ pub trait Registers {
 }
 
 // Five registers, each of a make of its own.
-#[derive(Clone, Copy)]
+#[derive(Clone, Copy, PartialEq, Eq, Debug)]
 pub struct Five<A, O, S, U, L> {
     pub agencies: A,
     pub offices: O,

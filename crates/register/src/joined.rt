@@ -4,7 +4,7 @@ ghost use Rattle.std.specs.Prelude.{◌||◌};
 use crate::Register;
 
 // The keys that either of two registers has.
-#[derive(Clone, Copy)]
+#[derive(Clone, Copy, PartialEq, Eq, Debug)]
 pub struct Joined<A, B> {
     pub first: A,
     pub second: B,

@@ -1,9 +1,24 @@
-use Rattle.std.proofs.Common.{◌-◌, length, ◌∙◌, arith}
-use Rattle.octets.proofs.Blocks.{last_back}
+use Rattle.std.proofs.Common.{sym}
+use Rattle.octets.proofs.Blocks.{by_blocks}
 use Rattle.octets.proofs.class.every.Goals as goal
+use Rattle.octets.proofs.class.every.Goals.{then-each_block, else-each_block}
 
-pub returns-then-n-near-gt16 : goal.returns-then-n-near-gt16
-returns-then-n-near-gt16 g c = c.each.ensures ∙ last_back g.C.Class.test c.args.bytes.now c.past-near.result c.past-near.result (omega arith) (c.past-near.ensures.value ∙ c.past-far.ensures.value)
+pub returns-then-each_block-2 : goal.returns-then-each_block-2
+returns-then-each_block-2 g c =
+    let p = g.C.Class.test in
+    let s = by_blocks p 64 _ c.args.bytes.now _ _ _ c.as_chunks.ensures.front c.as_chunks.ensures.back c.each_block.ensures in
+    elim c.if-each_block.branch [
+      | then-each_block w ↦ let t = by_blocks p 16 _ _ _ _ _ c.as_chunks-2.ensures.front c.as_chunks-2.ensures.back w.each_block-then-each_block.ensures in
+          simp (s, w.if-each_block.true, t, sym w.value-is, c.if-each_block-2.true) c.few.ensures
+      | else-each_block w ↦ cc
+    ]
 
-pub returns : goal.returns
-returns g c = c.each-2.ensures ∙ last_back g.C.Class.test c.args.bytes.now (length c.args.bytes.now - 16) c.past-near.result (omega arith) (c.past-near.ensures.value ∙ c.past-far.ensures.value)
+pub returns-else-each_block-2 : goal.returns-else-each_block-2
+returns-else-each_block-2 g c =
+    let p = g.C.Class.test in
+    let s = by_blocks p 64 _ c.args.bytes.now _ _ _ c.as_chunks.ensures.front c.as_chunks.ensures.back c.each_block.ensures in
+    elim c.if-each_block.branch [
+      | then-each_block w ↦ let t = by_blocks p 16 _ _ _ _ _ c.as_chunks-2.ensures.front c.as_chunks-2.ensures.back w.each_block-then-each_block.ensures in
+          simp (s, w.if-each_block.true, t, sym w.value-is, c.if-each_block-2.false)
+      | else-each_block w ↦ simp (s, w.value-is, w.if-each_block.false)
+    ]

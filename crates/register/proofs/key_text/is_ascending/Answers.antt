@@ -1,35 +1,17 @@
-use Rattle.std.proofs.Common.{◌≡◌, ◌-◌, ◌≤◌, ◌&&◌, length, sym, ap, ◌∙◌, arith, rules}
-use Rattle.register.specs.Keys.{cut, ascends}
-use Rattle.register.proofs.Texts.{room_two, ascends_more, ascends_end}
+use Rattle.std.proofs.Common.{◌≡◌, ap, ◌∙◌, subst, arith, rules}
+use Rattle.std.specs.Iterator.Runs.{IsChunksExactRun}
+use Rattle.std.specs.Ordering.{is_lt}
+use Rattle.std.specs.Slice.Iter.{chunks_exact_size, chunks_exact_rest}
+use Rattle.register.specs.Keys.{rank}
+use Rattle.register.proofs.Neighbours.{sorted_keys}
 use Rattle.register.proofs.key_text.is_ascending.Goals as goal
-use Rattle.register.proofs.key_text.is_ascending.Goals.{After-comes_before}
-
--- what `comes_before` told, in the words of the definition
-told : (c : After-comes_before) → ascends (cut c.loop-left.left c.args.width c.loop-left.rest.now) ≡ (c.comes_before.result && ascends (cut (c.loop-left.left - 1) c.args.width c.split_at.result.1.now))
-told c =
-    let front = c.split_at.ensures.front in
-    let back = c.split_at.ensures.back in
-    let z : c.args.width - 0 ≡ c.args.width = omega arith in
-    ascends_more _ _ _ c.loop-left-test.true ∙ rw (c.comes_before.ensures, front, back, z)
-
-pub split_at-requires : goal.split_at-requires
-split_at-requires c = omega (arith, (room_two _ _ _ c.loop-left-test.true c.loop-left.invariant.1).0)
-
-pub slice_bounds-comes_before-end : goal.slice_bounds-comes_before-end
-slice_bounds-comes_before-end c =
-    let h : c.args.width ≤ length c.split_at.result.1.now = omega (arith, (room_two _ _ _ c.loop-left-test.true c.loop-left.invariant.1).0, c.split_at.ensures.back_len) in search rules
-
-pub returns-then-not-comes_before : goal.returns-then-not-comes_before
-returns-then-not-comes_before c =
-    let r = ascends (cut (c.loop-left.left - 1) c.args.width c.split_at.result.1.now) in
-    sym (told (goal.at.returns-then-not-comes_before c).After-comes_before ∙ ap (λ b. b && r) c.if-not-comes_before.true) ∙ c.loop-left.invariant.0
-
-pub loop-left-preserved : goal.loop-left-preserved
-loop-left-preserved c =
-    let r = ascends (cut (c.loop-left.left - 1) c.args.width c.split_at.result.1.now) in (
-      sym (told (goal.at.loop-left-preserved c).After-comes_before ∙ ap (λ b. b && r) c.if-not-comes_before.false) ∙ c.loop-left.invariant.0,
-      omega (arith, (room_two _ _ _ c.loop-left-test.true c.loop-left.invariant.1).1, c.split_at.ensures.back_len),
-    )
 
 pub returns : goal.returns
-returns c = sym (ascends_end c.loop-left.left c.args.width c.loop-left.rest.now c.loop-left-test.false) ∙ c.loop-left.invariant.0
+returns c =
+    let ran = c.is_sorted_by.ensures.runs in
+    let p = ran.0 in
+    let width : chunks_exact_size p.from ≡ c.args.width = ap chunks_exact_size ran.1 ∙ c.chunks_exact.ensures.size in
+    let text : chunks_exact_rest p.from ≡ c.args.text.now = ap chunks_exact_rest ran.1 ∙ c.chunks_exact.ensures.rest in
+    let run : IsChunksExactRun p c.args.width c.args.text.now =
+    subst (λ w. IsChunksExactRun p w c.args.text.now) width (subst (IsChunksExactRun p (chunks_exact_size p.from)) text (c.chunks_exact.ensures.runs p p.seen (omega arith))) in
+    sorted_keys p c.args.width c.args.text.now c.requires run _ ran.2.0 (ran.2.1 (λ x y. is_lt (rank x.now y.now)) (λ x y r f g. search rules)).0
