@@ -15,9 +15,7 @@ struct Everything;
 impl Registers for Everything {
     ghost holds = { λ _ _ _. true };
 
-    fn has(&self, which: Lookup, key: &[u8]) -> bool {
-        let _ = which;
-        let _ = key;
+    fn has(&self, _which: Lookup, _key: &[u8]) -> bool {
         true
     }
 }

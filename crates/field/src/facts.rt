@@ -2,6 +2,7 @@
 ghost use Rattle.field.specs.Facts.{Facts};
 
 // It stands for its contract alone.
+#[tactic(auto, using(register::proofs::Widths::other_width))]
 pub fn facts_stand()
     ensures { Facts }
 {}

@@ -5,11 +5,11 @@ ghost use Rattle.field.specs.Faults.{code_of};
 #[derive(Clone, Copy, PartialEq, Eq, Debug)]
 pub enum Cause {
     // A required field is spaces only.
-    Missing,
+    Missing = 21,
     // Wrong shape or value.
-    Shape,
+    Shape = 22,
     // Not in its register.
-    Unknown,
+    Unknown = 51,
 }
 
 #[derive(Clone, Copy, PartialEq, Eq, Debug)]
@@ -23,10 +23,6 @@ impl Cause {
     pub fn code(self) -> u16
         ensures { result ≡ code_of self }
     {
-        match self {
-            Cause::Missing => 21,
-            Cause::Shape => 22,
-            Cause::Unknown => 51,
-        }
+        self as u16
     }
 }

@@ -12,10 +12,7 @@ use octets::line::Line;
 pub fn is_filler(kind: Kind) -> bool
     ensures { result ≡ is_filler kind }
 {
-    match kind {
-        Kind::Filler => true,
-        _ => false,
-    }
+    matches!(kind, Kind::Filler)
 }
 
 fn is_positive(bytes: &[u8]) -> bool
@@ -27,16 +24,16 @@ fn is_positive(bytes: &[u8]) -> bool
 fn is_one_of(letters: [u8; 2], bytes: &[u8]) -> bool
     ensures { result ≡ is_one_of letters bytes.now }
 {
-    bytes.len() == 1 && (bytes[0] == letters[0] || bytes[0] == letters[1])
+    match bytes {
+        [b] => letters.contains(b),
+        _ => false,
+    }
 }
 
 fn is_one_set(a: SetId, b: SetId, bytes: &[u8]) -> bool
     ensures { result ≡ is_one_set a b (set_id_of bytes.now) }
 {
-    match SetId::of(bytes) {
-        Some(set) => set.number() == a.number() || set.number() == b.number(),
-        None => false,
-    }
+    SetId::of(bytes).is_some_and(|set| set == a || set == b)
 }
 
 // Of a text field whose line is known to be printable only the first byte is looked at.

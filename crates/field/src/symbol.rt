@@ -14,10 +14,7 @@ fn is_digits_or_blank(bytes: &[u8]) -> bool
 fn is_availability(b: u8) -> bool
     ensures { result ≡ is_availability b }
 {
-    match b {
-        b'X' | b'F' | b'A' | b'M' | b' ' => true,
-        _ => false,
-    }
+    matches!(b, b'X' | b'F' | b'A' | b'M' | b' ')
 }
 
 pub fn is_symbol(s: &[u8]) -> bool

@@ -8,8 +8,8 @@ use register::bit_map::BitMap;
 use register::five::Five;
 use register::key_list::KeyList;
 
-// What the field of the layout that starts at the column gets with these bytes: its code, 0 for a good one.
-fn code_at(layout: Layout, column: usize, bytes: &[u8]) -> u16 {
+// What the field of the layout that starts at the column gets with these bytes: its code where it is refused. None where no field starts there.
+fn code_at(layout: Layout, column: usize, bytes: &[u8]) -> Option<Result<(), u16>> {
     let registers = Five {
         agencies: KeyList::of(b"00001234", 8),
         offices: KeyList::of(b"00012", 5),
@@ -17,26 +17,20 @@ fn code_at(layout: Layout, column: usize, bytes: &[u8]) -> u16 {
         units: KeyList::of(b"BAEA", 2),
         accounts: BitMap::of(b""),
     };
-    for field in layout.fields() {
-        if field.start() == column {
-            return match check_field(Line::of(bytes), field, &registers) {
-                Ok(()) => 0,
-                Err(fault) => fault.cause.code(),
-            };
-        }
-    }
-    99
+    let field = layout
+        .fields()
+        .iter()
+        .find(|field| field.start() == column)?;
+    Some(check_field(Line::of(bytes), field, &registers).map_err(|fault| fault.cause.code()))
 }
 
-// Whether each value, of the field's length, gets its code.
-fn get(layout: Layout, column: usize, values: &[u8], len: usize, codes: &[u16]) -> bool
+// Whether each value, of the field's length, gets its code, or is good. Values of one length in one text, and their codes beside: so a case stays in a line or two.
+fn get(layout: Layout, column: usize, values: &[u8], len: usize, codes: &[Result<(), u16>]) -> bool
     requires { 0 < len }
 {
-    let mut all = values.len() / len == codes.len();
-    for (value, code) in values.chunks(len).zip(codes.iter()) {
-        all = all & (code_at(layout, column, value) == *code);
-    }
-    all
+    values.len() / len == codes.len()
+        && values.chunks(len).zip(codes.iter()).all(|(value, code)| code_at(layout, column, value)
+            == Some(*code))
 }
 
 #[test]
@@ -48,21 +42,29 @@ fn payment_header(rt: HostRuntime) {
             2,
             b"0000123400001235    1234        ",
             8,
-            &[0, 51, 22, 21],
+            &[Ok(()), Err(51), Err(22), Err(21)],
         )
     );
-    assert!(rt; get(header, 32, b"0001200013 0012     ", 5, &[0, 51, 22, 21]));
-    assert!(rt; get(header, 37, b"820810812", 3, &[0, 0, 22]));
+    assert!(rt;
+        get(
+            header,
+            32,
+            b"0001200013 0012     ",
+            5,
+            &[Ok(()), Err(51), Err(22), Err(21)]
+        )
+    );
+    assert!(rt; get(header, 37, b"820810812", 3, &[Ok(()), Ok(()), Err(22)]));
     assert!(rt;
         get(
             header,
             40,
             b"REF00001lower ~          REF0001REF\t0001",
             8,
-            &[0, 0, 0, 22, 22],
+            &[Ok(()), Ok(()), Ok(()), Err(22), Err(22)],
         )
     );
-    assert!(rt; get(header, 48, b"   x", 2, &[0, 22]));
+    assert!(rt; get(header, 48, b"   x", 2, &[Ok(()), Err(22)]));
 }
 
 #[test]
@@ -74,13 +76,21 @@ fn payment_detail(rt: HostRuntime) {
             30,
             b"0000000000065000000000000000           650",
             14,
-            &[0, 22, 22],
+            &[Ok(()), Err(22), Err(22)],
         )
     );
-    assert!(rt; get(detail, 883, b"FPf ", 1, &[0, 0, 22, 21]));
-    assert!(rt; get(detail, 920, b"CPN ", 1, &[0, 0, 22, 0]));
-    assert!(rt; get(detail, 1047, b"BAEAXX  ", 2, &[0, 0, 51, 21]));
-    assert!(rt; get(Layout::SglEntry, 3, b"1010 101", 4, &[51, 22]));
+    assert!(rt; get(detail, 883, b"FPf ", 1, &[Ok(()), Ok(()), Err(22), Err(21)]));
+    assert!(rt; get(detail, 920, b"CPN ", 1, &[Ok(()), Ok(()), Err(22), Ok(())]));
+    assert!(rt;
+        get(
+            detail,
+            1047,
+            b"BAEAXX  ",
+            2,
+            &[Ok(()), Ok(()), Err(51), Err(21)]
+        )
+    );
+    assert!(rt; get(Layout::SglEntry, 3, b"1010 101", 4, &[Err(51), Err(22)]));
 }
 
 #[test]
@@ -91,11 +101,11 @@ fn symbols(rt: HostRuntime) {
     let prefix = b"1    09720202021 1234000  C";
     let letter = b"     09720202021 1234000  D";
     let blank = b"                           ";
-    assert!(rt; get(Layout::PaymentDetail, 984, good, 27, &[0]));
-    assert!(rt; get(Layout::PaymentDetail, 984, unknown, 27, &[51]));
-    assert!(rt; get(Layout::PaymentDetail, 984, agency, 27, &[22]));
-    assert!(rt; get(Layout::PaymentDetail, 984, prefix, 27, &[22]));
-    assert!(rt; get(Layout::PaymentDetail, 984, letter, 27, &[22]));
-    assert!(rt; get(Layout::PaymentDetail, 984, blank, 27, &[21]));
-    assert!(rt; get(Layout::PaymentDetail, 921, blank, 27, &[0]));
+    assert!(rt; get(Layout::PaymentDetail, 984, good, 27, &[Ok(())]));
+    assert!(rt; get(Layout::PaymentDetail, 984, unknown, 27, &[Err(51)]));
+    assert!(rt; get(Layout::PaymentDetail, 984, agency, 27, &[Err(22)]));
+    assert!(rt; get(Layout::PaymentDetail, 984, prefix, 27, &[Err(22)]));
+    assert!(rt; get(Layout::PaymentDetail, 984, letter, 27, &[Err(22)]));
+    assert!(rt; get(Layout::PaymentDetail, 984, blank, 27, &[Err(21)]));
+    assert!(rt; get(Layout::PaymentDetail, 921, blank, 27, &[Ok(())]));
 }

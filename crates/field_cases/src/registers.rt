@@ -12,21 +12,13 @@ use register::key_text::check_keys;
 fn has_each<R: Register>(register: &R, keys: &[u8], width: usize) -> bool
     requires { 0 < width }
 {
-    let mut all = true;
-    for key in keys.chunks(width) {
-        all = all & register.has(key);
-    }
-    all
+    keys.chunks(width).all(|key| register.has(key))
 }
 
 fn has_none<R: Register>(register: &R, keys: &[u8], width: usize) -> bool
     requires { 0 < width }
 {
-    let mut none = true;
-    for key in keys.chunks(width) {
-        none = none & !register.has(key);
-    }
-    none
+    !keys.chunks(width).any(|key| register.has(key))
 }
 
 #[test]

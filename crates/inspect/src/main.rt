@@ -19,8 +19,11 @@ fn print_transaction(
     transaction: &[u8],
     tally: Tally,
 ) -> anyhow::Result<()> {
-    let details = tally.details;
-    let entries = tally.entries;
+    let Tally {
+        details,
+        entries,
+        ..
+    } = tally;
     let header = Records::of(transaction).next_line(49).bytes();
     match SetId::in_header(header) {
         Some(set_id) => {
@@ -41,10 +44,8 @@ fn print_transaction(
 // A file's first transaction begins at record 3, each other one behind the one before it.
 fn print_transactions(rt: &HostRuntime, bulk: &[u8]) -> anyhow::Result<()> {
     println!(rt; "transaction  first record  Set ID                     D records  E records")?;
-    let mut number: u64 = 0;
     let mut first: u64 = 3;
-    for transaction in Transactions::of(body(bulk)) {
-        number = number.saturating_add(1);
+    for (transaction, number) in Transactions::of(body(bulk)).zip(1u64..) {
         let tally = Tally::of(transaction);
         print_transaction(rt, number, first, transaction, tally)?;
         first = first.saturating_add(tally.records as u64);
@@ -55,9 +56,10 @@ fn print_transactions(rt: &HostRuntime, bulk: &[u8]) -> anyhow::Result<()> {
 fn print_opening(rt: &HostRuntime, opening: Opening, bulk: &[u8]) -> anyhow::Result<()> {
     let id = std::str::from_utf8(&opening.id)?;
     let stated = opening.stated;
-    let found = Found::of(bulk);
-    let records = found.records;
-    let transactions = found.transactions;
+    let Found {
+        records,
+        transactions,
+    } = Found::of(bulk);
     println!(rt; "File ID Number: {id}")?;
     println!(rt; "records: {stated} stated, {records} found")?;
     println!(rt; "transactions: {transactions}")?;
@@ -65,14 +67,12 @@ fn print_opening(rt: &HostRuntime, opening: Opening, bulk: &[u8]) -> anyhow::Res
     Ok(())
 }
 
+// Where the file cannot be read, saying so can fail too: so by `or_else`.
 fn inspect(rt: &HostRuntime, name: &str) -> anyhow::Result<()> {
-    let bulk = match fs::read(rt, name) {
-        Ok(bulk) => bulk,
-        Err(reason) => {
-            eprintln!(rt; "inspect: {name}: {reason}")?;
-            return Err(reason.into());
-        }
-    };
+    let bulk = fs::read(rt, name).or_else(|reason| -> anyhow::Result<Vec<u8>> {
+        eprintln!(rt; "inspect: {name}: {reason}")?;
+        Err(reason.into())
+    })?;
     let size = bulk.len();
     println!(rt; "{name}: {size} bytes")?;
     match Opening::of(&bulk) {

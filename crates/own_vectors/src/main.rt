@@ -4,7 +4,6 @@
 use anyhow::Context;
 use file::opening::{Opening, body};
 use file::transactions::Transactions;
-use octets::class::is_same;
 use register::bit_map::BitMap;
 use register::five::{Five, Registers};
 use register::key_list::KeyList;
@@ -12,11 +11,17 @@ use std::fs;
 use transaction::sound::read;
 use transaction::verdict::Verdict;
 
+// Answers below this number are the opening's codes.
+const OPENING: u64 = 6;
+
 // The codes from here on are the book's.
 const BOOK: u16 = 60;
 
+// How long the item of the file is, which a packet begins with.
+const HEADER: usize = 20;
+
 // What was compared, and what disagreed.
-#[derive(Clone, Copy)]
+#[derive(Clone, Copy, Default, PartialEq, Eq, Debug)]
 struct Totals {
     files: u64,
     refused_files: u64,
@@ -25,43 +30,28 @@ struct Totals {
     disagree: u64,
 }
 
-fn hex_digit(b: u8) -> u32 {
-    match b {
-        b'0'..=b'9' => u32::from(b - b'0'),
-        b'a'..=b'f' => u32::from(b - b'a') + 10,
-        _ => 0,
-    }
+// What the vectors have for a file: the call's answer, and the packet, which a refused file has not.
+#[derive(Drop)]
+struct Expected {
+    // One number, a length or a code, as the stored answers have it.
+    answer: u64,
+    packet: Option<Vec<u8>>,
 }
 
-// The byte at `at` of a packet in hexadecimal, or 0 past its end.
-fn byte_at(hex: &[u8], at: usize) -> u32 {
-    let digits = at.saturating_mul(2);
-    let high = hex.get(digits).copied().unwrap_or(b'0');
-    let low = hex.get(digits.saturating_add(1)).copied().unwrap_or(b'0');
-    hex_digit(high)
-        .saturating_mul(16)
-        .saturating_add(hex_digit(low))
+// One more in the total where it counts. At the largest number it would stay, which no folder of vectors reaches.
+fn count_if(total: &mut u64, counts: bool) {
+    *total = total.saturating_add(u64::from(counts));
 }
 
-// Two bytes, the lower first.
-fn two_at(hex: &[u8], at: usize) -> u32 {
-    byte_at(hex, at.saturating_add(1))
-        .saturating_mul(256)
-        .saturating_add(byte_at(hex, at))
-}
-
-// The verdict that the packet has for the transaction at `index`, from 0, where it is not the book's.
-fn expected(hex: &[u8], index: usize) -> Verdict {
-    let at = index.saturating_mul(16).saturating_add(20);
-    let code = two_at(hex, at.saturating_add(8)).min(u32::from(u16::MAX)) as u16;
-    let record = two_at(hex, at.saturating_add(12))
-        .saturating_mul(65_536)
-        .saturating_add(two_at(hex, at.saturating_add(10)));
-    let column = two_at(hex, at.saturating_add(14));
+// The verdict in an item of a packet, where it is not the book's.
+fn verdict_in(item: &[u8; 16]) -> Verdict {
+    let code = u16::from_le_bytes([item[8], item[9]]);
+    let number = u32::from_le_bytes([item[10], item[11], item[12], item[13]]);
+    let column = u16::from_le_bytes([item[14], item[15]]);
     if code == 0 || code >= BOOK {
         return Verdict::Accepted;
     }
-    Verdict::Refused(code, record as usize, column as usize)
+    Verdict::Refused(code, number as usize, usize::from(column))
 }
 
 fn own_verdict<R: Registers>(text: &[u8], registers: &R) -> Verdict {
@@ -71,44 +61,32 @@ fn own_verdict<R: Registers>(text: &[u8], registers: &R) -> Verdict {
     }
 }
 
-fn run_transactions<R: Registers>(bulk: &[u8], hex: &[u8], registers: &R, totals: &mut Totals) {
-    let mut index: usize = 0;
+fn run_transactions<R: Registers>(bulk: &[u8], packet: &[u8], registers: &R, totals: &mut Totals) {
+    let items = packet.get(HEADER..).unwrap_or(&[]);
+    let mut verdicts = items.as_chunks::<16>().0.iter().map(verdict_in);
     for text in Transactions::of(body(bulk)) {
-        let got = own_verdict(text, registers);
-        totals.transactions = totals.transactions.saturating_add(1);
-        if got != Verdict::Accepted {
-            totals.refused = totals.refused.saturating_add(1);
-        }
-        if got != expected(hex, index) {
-            totals.disagree = totals.disagree.saturating_add(1);
-        }
-        index = index.saturating_add(1);
+        let verdict = own_verdict(text, registers);
+        count_if(&mut totals.transactions, true);
+        count_if(&mut totals.refused, verdict != Verdict::Accepted);
+        count_if(&mut totals.disagree, verdicts.next() != Some(verdict));
     }
 }
 
-fn run_file<R: Registers>(
-    bulk: &[u8],
-    answer: &str,
-    hex: &[u8],
-    registers: &R,
-    totals: &mut Totals,
-) {
-    totals.files = totals.files.saturating_add(1);
-    let code = answer.parse::<u16>().unwrap_or(0);
+fn run_file<R: Registers>(bulk: &[u8], expected: &Expected, registers: &R, totals: &mut Totals) {
+    count_if(&mut totals.files, true);
     match Opening::of(bulk) {
         Ok(_) => {
-            if code < 6 {
-                totals.disagree = totals.disagree.saturating_add(1);
-            }
-            if !is_same(hex, b"-") {
-                run_transactions(bulk, hex, registers, totals);
+            count_if(&mut totals.disagree, expected.answer < OPENING);
+            if let Some(packet) = &expected.packet {
+                run_transactions(bulk, packet, registers, totals);
             }
         }
         Err(fault) => {
-            totals.refused_files = totals.refused_files.saturating_add(1);
-            if fault.code() != code {
-                totals.disagree = totals.disagree.saturating_add(1);
-            }
+            count_if(&mut totals.refused_files, true);
+            count_if(
+                &mut totals.disagree,
+                expected.answer != u64::from(fault.code()),
+            );
         }
     }
 }
@@ -123,14 +101,18 @@ fn run_line<R: Registers>(
     let name = words.next().context("no name")?;
     let _day = words.next();
     let _room = words.next();
-    let answer = words.next().context("no answer")?;
-    let hex = words.next().context("no packet")?;
+    let answer = words.next().context("no answer")?.parse::<u64>()?;
+    let packet = match words.next().context("no packet")? {
+        "-" => None,
+        digits => Some(hex::decode(rt.alloc(), digits)?),
+    };
     let path = format!(in rt.alloc(); "files/{name}")?;
     let bulk = fs::read(rt, path.as_str())?;
-    run_file(&bulk, answer, hex.as_bytes(), registers, totals);
+    run_file(&bulk, &Expected { answer, packet }, registers, totals);
     Ok(())
 }
 
+// It reads its folder by itself, as `vectors` does: they want other words of a line and other registers, and share the library's calls.
 fn main(rt: HostRuntime) -> anyhow::Result<()> {
     let agencies = fs::read(&rt, "registers/alc.txt")?;
     let offices = fs::read(&rt, "registers/do.txt")?;
@@ -144,24 +126,19 @@ fn main(rt: HostRuntime) -> anyhow::Result<()> {
         units: KeyList::of(&units, 2),
         accounts: BitMap::of(&accounts),
     };
-    let mut totals = Totals {
-        files: 0,
-        refused_files: 0,
-        transactions: 0,
-        refused: 0,
-        disagree: 0,
-    };
+    let mut totals = Totals::default();
     let lines = fs::read_to_string(&rt, "expected.txt")?;
     for line in lines.as_str().lines() {
         run_line(&rt, line, &registers, &mut totals)?;
     }
-    let files = totals.files;
-    let refused_files = totals.refused_files;
-    println!(rt; "{files} files, {refused_files} refused by their opening")?;
-    let transactions = totals.transactions;
-    let refused = totals.refused;
-    println!(rt; "{transactions} transactions, {refused} refused on their own")?;
-    let disagree = totals.disagree;
-    println!(rt; "{disagree} disagree with the vectors")?;
+    println!(rt;
+        "{} files, {} refused by their opening",
+        totals.files, totals.refused_files
+    )?;
+    println!(rt;
+        "{} transactions, {} refused on their own",
+        totals.transactions, totals.refused
+    )?;
+    println!(rt; "{} disagree with the vectors", totals.disagree)?;
     Ok(())
 }

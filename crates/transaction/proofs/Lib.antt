@@ -1,8 +1,6 @@
 pub mod Chains
-pub mod Firsts
 pub mod Listed
 pub mod Passes
-pub mod Products
 pub mod Sets
 pub mod Touches
 pub mod Turns

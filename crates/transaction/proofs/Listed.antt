@@ -1,6 +1,7 @@
 -- The layers of the code give the verdict of the one list of checks.
 use Rattle.std.proofs.Common.{◌≡◌, ℕ, suc, Bool, true, false, cond, eqb, List, [], ◌∷◌, ◌++◌, map, length, is_some, Some, None, Ok, Err, Option, sym, refl, ap, ◌∙◌}
 use Rattle.std.specs.List.{flat_map}
+use Rattle.std.proofs.lemmas.List.Concat.{flat_map_single}
 use Rattle.octets.specs.Classes.{Bytes}
 use Rattle.layout.specs.declared.Layout.{Layout}
 use Rattle.layout.specs.declared.companion.Companion.{Companion}
@@ -80,10 +81,6 @@ judged_named : {E F : Type 0} (v : F → Verdict) (f : E → F) (r : Passed E) �
 judged_named v f (Ok x) = refl
 judged_named v f (Err e) = refl
 
-joined_map : {X : Type 0} (c : X → Check) (xs : List X) → flat_map (λ x. c x ∷ []) xs ≡ map c xs
-joined_map c [] = refl
-joined_map c (x ∷ xs) = ap (λ cs. c x ∷ cs) (joined_map c xs)
-
 -- ---- a record
 
 cause_refuses : (n : ℕ) → Refusing (cause_verdict n)
@@ -122,7 +119,7 @@ module _ (holds : Holds) (n : ℕ) (r : Bytes) where
   companions_listed : (cs : List Companion) → judged (cause_verdict n) (first (companion_layer r) cs) ≡ verdict (map (companion_check n r) cs)
   companions_listed cs =
       judged_first (cause_verdict n) (cause_refuses n) (companion_layer r) (λ c. companion_check n r c ∷ []) (λ c. judged_unless (cause_verdict n) (keeps_companion r c) (Companions (refused_start c)) 33 n (refused_start c) refl) cs
-      ∙ ap verdict (joined_map (companion_check n r) cs)
+      ∙ ap verdict (flat_map_single (companion_check n r) cs)
 
   fields_give : (fs : List Field) → Gives (cause_verdict n) (named InField (first (field_layer holds r) fs)) (flat_map (field_checks holds n r) fs)
   fields_give fs = record { is = fields_listed fs }
@@ -180,7 +177,7 @@ records_gives holds set n (r ∷ rs) = both record_refuses (record_gives holds s
 sets_listed : (set : SetId) (ds : List DetailRead) → judged fault_verdict (first (entry_set_layer set) ds) ≡ verdict (map (entry_set_check set) ds)
 sets_listed set ds =
     judged_first fault_verdict fault_refuses (entry_set_layer set) (λ d. entry_set_check set d ∷ []) (λ d. judged_unless fault_verdict (has_good_set set d) (EntrySet d.number) 42 d.number 1 refl) ds
-    ∙ ap verdict (joined_map (entry_set_check set) ds)
+    ∙ ap verdict (flat_map_single (entry_set_check set) ds)
 
 sets_give : (set : SetId) (ds : List DetailRead) → Gives fault_verdict (first (entry_set_layer set) ds) (map (entry_set_check set) ds)
 sets_give set ds = record { is = sets_listed set ds }

@@ -15,6 +15,12 @@ reading_under h (Some set) = Some (reading_of set h)
 abbrev pub reading_in : Bytes → Option Transaction
 reading_in h = reading_under h (set_id_in h)
 
+-- of records with the header first: a known Set ID, the header, and the text of the other records
+pub record KnownOf (rs : List Bytes) (set : SetId) (header body : Bytes) : Type 0 where
+  pub set_id : set_id_in (first_of rs) ≡ Some set
+  pub header_is : header ≡ first_of rs
+  pub others : records body ≡ others_of rs
+
 -- of records with the header first: the header's reading, how many details, and the text of the other records
 pub record SoundOf (rs : List Bytes) (t : Transaction) (details : ℕ) (body : Bytes) : Type 0 where
   pub reading : reading_in (first_of rs) ≡ Some t

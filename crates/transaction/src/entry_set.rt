@@ -1,14 +1,13 @@
 // The E records of a detail, by number and sum.
 ghost use Rattle.std.specs.Prelude.{◌≡◌, ◌+◌, ◌^◌, ◌<◌, ◌≤◌, cond};
-ghost use Rattle.transaction.specs.Details.{is_debit, sgl_amount, debit_in, credit_in, is_absent, is_balanced, is_post_sgl, is_good_set, with_entry};
+ghost use Rattle.transaction.specs.Details.{is_debit, sgl_amount, debit_in, credit_in, is_absent, is_balanced, is_good_set, with_entry};
 
 use layout::set_id::SetId;
-use octets::class::is_same;
 use octets::part::columns_of;
 use octets::value::number_at;
 
 // Sums of whole cents: the numbers are so wide that no text is long enough to fill them.
-#[derive(Clone, Copy)]
+#[derive(Clone, Copy, PartialEq, Eq, Debug)]
 pub struct EntrySet {
     pub debits: u128,
     pub credits: u128,
@@ -19,16 +18,7 @@ pub struct EntrySet {
 fn is_debit(entry: &[u8]) -> bool
     ensures { result ≡ is_debit entry.now }
 {
-    is_same(columns_of(entry, 23, 1), b"D")
-}
-
-fn is_post_sgl(set: SetId) -> bool
-    ensures { result ≡ is_post_sgl set }
-{
-    match set {
-        SetId::PostSgl => true,
-        _ => false,
-    }
+    columns_of(entry, 23, 1) == b"D".as_slice()
 }
 
 impl EntrySet {
@@ -45,11 +35,11 @@ impl EntrySet {
 
     // One record more.
     pub(crate) fn with(self, entry: &[u8]) -> EntrySet
-        requires debits_bound { (self.debits + 10 ^ 14 < 2 ^ 128) × (self.credits + 10 ^ 14 < 2 ^ 128) }
-        requires debit_records_bound { (self.debit_records + 1 < 2 ^ 64) × (self.credit_records + 1 < 2 ^ 64) }
+        requires sums_bound { (self.debits + 10 ^ 14 < 2 ^ 128) × (self.credits + 10 ^ 14 < 2 ^ 128) }
+        requires count_bound { self.debit_records + self.credit_records + 1 < 2 ^ 64 }
         ensures value { result ≡ with_entry self entry.now }
         ensures sums { (result.debits ≤ self.debits + 10 ^ 14) × (result.credits ≤ self.credits + 10 ^ 14) }
-        ensures counts { (result.debit_records ≤ self.debit_records + 1) × (result.credit_records ≤ self.credit_records + 1) }
+        ensures count { result.debit_records + result.credit_records ≡ self.debit_records + self.credit_records + 1 }
     {
         let amount = u128::from(number_at(entry, 9, 14));
         if is_debit(entry) {
@@ -65,6 +55,14 @@ impl EntrySet {
                 ..self
             }
         }
+    }
+
+    // How many records there are.
+    pub(crate) fn records(self) -> usize
+        requires { self.debit_records + self.credit_records < 2 ^ 64 }
+        ensures { result ≡ self.debit_records + self.credit_records }
+    {
+        self.debit_records + self.credit_records
     }
 
     fn is_absent(self) -> bool
@@ -86,7 +84,7 @@ impl EntrySet {
     pub fn is_good(self, set: SetId, amount: u64) -> bool
         ensures { result ≡ is_good_set set amount self }
     {
-        let post_sgl = is_post_sgl(set);
+        let post_sgl = set == SetId::PostSgl;
         if self.is_absent() {
             return !post_sgl;
         }

@@ -8,7 +8,7 @@ use crate::verdict::Verdict;
 use field::fault::FieldFault;
 
 // What is wrong with a record.
-#[derive(Clone, Copy)]
+#[derive(Clone, Copy, PartialEq, Eq, Debug)]
 pub enum RecordCause {
     // The header is below 39 bytes, or its Set ID is none of the six.
     SetIdUnknown,
@@ -23,13 +23,13 @@ pub enum RecordCause {
 }
 
 // The record by its number after the header, which is 0.
-#[derive(Clone, Copy)]
+#[derive(Clone, Copy, PartialEq, Eq, Debug)]
 pub struct RecordFault {
     pub number: usize,
     pub cause: RecordCause,
 }
 
-#[derive(Clone, Copy)]
+#[derive(Clone, Copy, PartialEq, Eq, Debug)]
 pub enum TransactionFault {
     Record(RecordFault),
     // No detail, or too many.

@@ -1,4 +1,4 @@
-// The verdict on a transaction.
+// The verdict on a transaction. It is no Result: it is what an item of the packet says, and no step is taken on it by `?`.
 #[derive(Clone, Copy, PartialEq, Eq, Debug)]
 pub enum Verdict {
     Accepted,

@@ -1,43 +1,37 @@
-use Rattle.std.proofs.Common.{◌≡◌, ap, ◌∙◌}
-use Rattle.layout.specs.SetIds.{set_id_in}
-use Rattle.file.specs.Records.{records, first_of, others_of, is_detail, many}
-use Rattle.transaction.proofs.Whole.{no_set_id, verdict_is, counts_so, known, unknown, reading_is, made_map}
-use Rattle.transaction.proofs.sound.read.Given as given
+use Rattle.std.proofs.Common.{Ok, sym, ap, ◌∙◌}
+use Rattle.std.proofs.lemmas.Result.{err_from_is_err_and}
+use Rattle.file.specs.Records.{records, is_detail, many}
+use Rattle.transaction.specs.Headers.{reading_of}
+use Rattle.transaction.proofs.Chains.{telling_ok, telling_err}
+use Rattle.transaction.proofs.Whole.{no_set_id, verdict_is, counts_so, known, unknown, reading_is}
 use Rattle.transaction.proofs.sound.read.Goals as goal
-use Rattle.transaction.proofs.sound.read.Goals.{After-next_line-header}
 
--- the header is the first record
-header : (g : given.Over) (c : After-next_line-header g) → c.next_line-header.result.bytes.now ≡ first_of (records c.args.text.now)
-header g c = c.next_line-header.ensures.line ∙ ap (λ l. first_of (records l)) c.of-rest.ensures
-
-others : (g : given.Over) (c : After-next_line-header g) → records c.next_line-header.new.self.rest.now ≡ others_of (records c.args.text.now)
-others g c = c.next_line-header.ensures.others ∙ ap (λ l. others_of (records l)) c.of-rest.ensures
-
-pub returns-in-Some : goal.returns-in-Some
-returns-in-Some g c =
-    let a = (goal.at.returns-in-Some g c).After-next_line-header in
+pub returns-in_err-details : goal.returns-in_err-details
+returns-in_err-details g c =
+    let p = err_from_is_err_and c.from_residual.result c.from_residual.ensures.1 in
     let rs = records c.args.text.now in
     let holds = g.R.Registers.holds c.args.registers.now in
-    let behind = ap records c.rest.ensures ∙ others g a in
-    let set_Known = c.in-Some.ensures ∙ ap set_id_in c.bytes.ensures in
-    let layer = c.read_known.ensures.fault ∙ known holds rs c.in-Some.set c.next_line-header.result.bytes.now (records c.rest.result.now) (header g a) behind set_Known in
+    let layer = sym (telling_err _ _ _ c.in_err-details.ensures.value) ∙ known holds rs c.in-Some.known.set c.in-Some.known.header.bytes.now c.in-Some.known.body.now c.in-Some.ensures in
+    rw (p.1, p.2) (record { verdict = verdict_is holds rs _ layer; first = counts_so holds rs _ layer; reading = tt })
+
+pub returns-in_default-clause-first : goal.returns-in_default-clause-first
+returns-in_default-clause-first g c =
+    let rs = records c.args.text.now in
+    let holds = g.R.Registers.holds c.args.registers.now in counts_so holds rs no_set_id (unknown holds rs c.in_default.ensures)
+
+pub returns : goal.returns
+returns g c =
+    let rs = records c.args.text.now in
+    let holds = g.R.Registers.holds c.args.registers.now in
+    let k = c.in-Some.ensures in
+    let told = telling_ok _ _ _ c.in_ok-details.ensures.value in
+    let layer = sym told.0 ∙ known holds rs c.in-Some.known.set c.in-Some.known.header.bytes.now c.in-Some.known.body.now k in
     record {
-      verdict = verdict_is holds rs c.read_known.result layer;
-      first = counts_so holds rs c.read_known.result layer;
-      reading =
-          made_map c.read_known.result _ _
-          (λ s p. record {
-            reading = reading_is rs c.in-Some.set c.next_line-header.result.bytes.now s.transaction (header g a) set_Known p.0;
-            count = p.1 ∙ ap (many is_detail) behind;
-            others = ap records p.2 ∙ behind;
-          })
-          c.read_known.ensures.reading;
+      verdict = verdict_is holds rs (Ok tt) layer;
+      first = counts_so holds rs (Ok tt) layer;
+      reading = record {
+        reading = reading_is rs c.in-Some.known.set c.in-Some.known.header.bytes.now c.in-Some.known.body.now _ k (c.of-2.ensures ∙ ap (reading_of c.in-Some.known.set) c.bytes.ensures);
+        count = told.1 ∙ ap (many is_detail) k.others;
+        others = k.others;
+      };
     }
-
-pub returns-in-None : goal.returns-in-None
-returns-in-None g c =
-    let a = (goal.at.returns-in-None g c).After-next_line-header in
-    let rs = records c.args.text.now in
-    let holds = g.R.Registers.holds c.args.registers.now in
-    let layer = unknown holds rs c.next_line-header.result.bytes.now (header g a) (c.in-None.ensures ∙ ap set_id_in c.bytes.ensures) in
-    record { verdict = verdict_is holds rs no_set_id layer; first = counts_so holds rs no_set_id layer; reading = tt }
