@@ -5,7 +5,7 @@ use Rattle.std.proofs.Common.{◌≡◌, ℕ, ◌-◌, ◌^◌, ◌<◌, ◌≤�
 use Rattle.std.specs.Option.{option_map}
 use Rattle.std.specs.Str.{bytes_eq}
 use Rattle.std.proofs.lemmas.Slice.Eq.{bytes_eq-Decides}
-use Rattle.std.proofs.lemmas.List.{take-append-drop}
+use Rattle.std.proofs.lemmas.List.{length-map, take-append-drop}
 use Rattle.std.proofs.lemmas.Bool.{and_parts}
 use Rattle.ordered.specs.Order.{ranks, every, ascends, held, entered, altered, adds}
 use Rattle.ordered.specs.declared.refusal.Refusal.{Refusal}
@@ -20,15 +20,14 @@ use Rattle.book.specs.declared.entry_row.EntryRow.{EntryRow}
 use Rattle.book.specs.declared.line_row.LineRow.{LineRow}
 use Rattle.book.specs.declared.mark_row.MarkRow.{MarkRow}
 use Rattle.book.specs.declared.fault.BookFault.TheVariants.{Absent, AboveOpen, CountTooLarge}
-use Rattle.book.specs.Faults.{as_book_fault}
 use Rattle.book.specs.Lists.{place}
 use Rattle.book.specs.Meaning.{BookMeaning, entry_at, line_at, mark_at, line_told, mark_told, fresh, line_under, mark_under, adjustable, seekable, under, under_line, under_mark, entry_first, line_first, mark_first}
 use Rattle.book.specs.Told.{EntryTold, entry_told, told, sought_told, SoughtAs, MaySeek}
 use Rattle.book.specs.Actions.{Answer, with_entries, with_lines, with_marks, less, take_open, set_mark, admits, entry_answer, line_answer, take_answer_at, take_answer, counts_fit, and_then, mark_answer, unless_refused, entering, entering_line, taking, marking}
 use Rattle.book.specs.Stands.{Stands, is_line_number, covered, numbered}
 use Rattle.book.specs.Rows.{pair_key, line_key, entry_of, line_of, mark_of, entry_code, line_code, mark_code, sound_entry, sound_line, sound_mark, less_row, rows_mean}
-use Rattle.book.proofs.Joins.{length_map, every_means, found, changed, admitted, placed, in_order_law}
-use Rattle.book.proofs.Tables.{entry_test, entry_order, line_test, line_order, mark_test, mark_order}
+use Rattle.book.proofs.Joins.{as_book_fault, every_means, found, changed, admitted, placed, in_order_law}
+use Rattle.book.proofs.Tests.{entry_test, entry_order, line_test, line_order, mark_test, mark_order}
 
 -- an action's answer r and the book b' afterwards are those defined
 pub record Done (r : Answer) (b' : BookMeaning) (answer : Answer) (after : BookMeaning) : Type 0 where
@@ -188,7 +187,7 @@ module _ (es : List EntryRow) (ls : List LineRow) (ms : List MarkRow) (ne nl nm 
     all_covered = every_means entry_code sound_entry entry_of covered (λ x h. h) es s;
     all_numbered = every_means line_code sound_line line_of numbered (λ x h. (and_parts _ (is_line_number (line_of x).number) h).1) ls t;
     all_counts_fit = every_means mark_code sound_mark mark_of counts_fit (λ x h. h) ms u;
-    entries_fit = omega (arith, length_map entry_of es);
-    lines_fit = omega (arith, length_map line_of ls);
-    marks_fit = omega (arith, length_map mark_of ms);
+    entries_fit = omega (arith, length-map es entry_of);
+    lines_fit = omega (arith, length-map ls line_of);
+    marks_fit = omega (arith, length-map ms mark_of);
   }

@@ -3,10 +3,6 @@
 use Rattle.std.proofs.Common.{[]}
 use Rattle.layout.specs.declared.set_id.SetId.TheVariants.{Payment}
 use Rattle.book.specs.declared.entry_row.EntryRow.{EntryRow}
-use Rattle.book.specs.declared.mark_row.MarkRow.{MarkRow}
 
 abbrev pub blank_entry : EntryRow
 blank_entry = record { total = 0; left = 0; day = 0; key = []; set_id = Payment }
-
-abbrev pub blank_mark : MarkRow
-blank_mark = record { accepted = 0; rejected = 0; key = [] }

@@ -1,17 +1,25 @@
 -- Rows in the order of their keys, and what they mean: found, put in its place, changed, in order.
 -- Assumes nothing.
-use Rattle.std.proofs.Common.{◌≡◌, ℕ, suc, ◌+◌, ◌-◌, Bool, true, false, cond, ◌&&◌, eqb, ltb, List, [], ◌∷◌, map, length, is_some, Some, None, Ok, Err, sum_by, Option, sym, refl, ap, ◌∙◌, arith}
+use Rattle.std.proofs.Common.{◌≡◌, ℕ, ◌+◌, ◌-◌, Bool, true, false, cond, ◌&&◌, eqb, ltb, List, [], ◌∷◌, map, length, is_some, Some, None, Ok, Err, sum_by, Option, Result, sym, refl, ap, ◌∙◌, arith}
 use Rattle.std.specs.Option.{option_map}
 use Rattle.std.specs.Ordering.{is_lt, is_eq}
+use Rattle.std.proofs.lemmas.List.{length-map}
 use Rattle.std.proofs.lemmas.List.Sums.{sum_by-cons}
 use Rattle.std.proofs.lemmas.Bool.{and_parts, ltb-true, ltb-false, eq-eqb, ne_eqb}
 use Rattle.ordered.specs.Order.{ranks, every, leads, ascends, held, entered, altered, sorted, adds}
 use Rattle.ordered.specs.declared.refusal.Refusal.TheVariants as table
 use Rattle.octets.specs.Classes.{Bytes}
 use Rattle.book.specs.declared.fault.BookFault.TheVariants.{Full}
-use Rattle.book.specs.Faults.{as_book_fault}
+use Rattle.ordered.specs.declared.refusal.Refusal.{Refusal}
+use Rattle.book.specs.declared.fault.BookFault.{BookFault}
+use Rattle.book.specs.Faults.{fault_of}
 use Rattle.book.specs.Lists.{find, place, change, leads_by, ascending}
 use Rattle.book.specs.Actions.{admits}
+
+-- what a table's answer is as the book's
+abbrev pub as_book_fault : Result Unit Refusal → Result Unit BookFault
+as_book_fault (Ok x) = Ok tt
+as_book_fault (Err r) = Err (fault_of r)
 
 -- a record that is held passes what all pass
 pub held_every : {X : Type 0} (t : X → Bool) (key : X → Bytes) (k : Bytes) (xs : List X) (x : X) → every t xs ≡ true → held ranks key k xs ≡ Some x → t x ≡ true
@@ -21,10 +29,6 @@ held_every {X} t key k (y ∷ ys) x h e = go (is_eq (ranks (key y) k)) e (held_e
     go : (v : Bool) → cond v (Some y) (held ranks key k ys) ≡ Some x → (held ranks key k ys ≡ Some x → t x ≡ true) → t x ≡ true
     go true e rest = let is : y ≡ x = cc in ap t (sym is) ∙ (and_parts (t y) (every t ys) h).0
     go false e rest = rest e
-
-pub length_map : {X Y : Type 0} (f : X → Y) (xs : List X) → length (map f xs) ≡ length xs
-length_map f [] = refl
-length_map f (x ∷ xs) = ap suc (length_map f xs)
 
 -- a row is of type X, and f x is what it means
 module _ {X Y : Type 0} (key : X → Bytes) (sound : X → Bool) (f : X → Y) where
@@ -59,7 +63,7 @@ module _ {X Y : Type 0} (key : X → Bytes) (sound : X → Bool) (f : X → Y) w
     admitted xs n x own s =
         ap (λ q. as_book_fault (cond (is_some (held ranks key q xs)) (Err table.Held) (cond (ltb (length xs) n) (Ok tt) (Err table.Full)))) own
         ∙ (go (held ranks key k xs) (ltb (length xs) n) refl
-        ∙ (λ i. admits (sym (found xs s) i) (n - sym (length_map f xs) i)))
+        ∙ (λ i. admits (sym (found xs s) i) (n - sym (length-map xs f) i)))
       where
         room : (v : Bool) → ltb (length xs) n ≡ v → as_book_fault (cond v (Ok tt) (Err table.Full)) ≡ cond (eqb (n - length xs) 0) (Err Full) (Ok tt)
         room true e = let l = ltb-true (length xs) n e in sym (ap (λ b. cond b (Err Full) (Ok tt)) (ne_eqb (n - length xs) 0 (λ z. omega arith)))

@@ -1,6 +1,6 @@
 -- The numbers of the book's refusals, and what a table's refusals are as the book's.
 -- Assumes nothing.
-use Rattle.std.specs.Prelude.{ℕ, Ok, Err, Result}
+use Rattle.std.specs.Prelude.{ℕ}
 use Rattle.ordered.specs.declared.refusal.Refusal.{Refusal}
 use Rattle.ordered.specs.declared.refusal.Refusal.TheVariants as table
 use Rattle.book.specs.declared.fault.BookFault.{BookFault}
@@ -13,7 +13,6 @@ fault_number Absent = 16
 fault_number AboveOpen = 17
 fault_number CountTooLarge = 18
 
-abbrev pub as_book_fault : Result Unit Refusal → Result Unit BookFault
-as_book_fault (Ok x) = Ok tt
-as_book_fault (Err table.Held) = Err Held
-as_book_fault (Err table.Full) = Err Full
+abbrev pub fault_of : Refusal → BookFault
+fault_of table.Held = Held
+fault_of table.Full = Full

@@ -12,7 +12,7 @@ use layout::pair::Pair;
 use layout::set_id::SetId;
 use ordered::Keyed;
 
-#[derive(Clone, Copy)]
+#[derive(Clone, Copy, PartialEq, Eq, Debug)]
 pub struct EntryRow {
     pub total: u64,
     pub left: u64,
@@ -31,15 +31,25 @@ impl Keyed for EntryRow {
     }
 }
 
-// The key of the entry under a pair.
+// By hand: a Set ID has no default of its own.
+impl Default for EntryRow {
+    ghost is_default = { λ row. row ≡ unused_entry };
+
+    fn default() -> EntryRow {
+        EntryRow::unused()
+    }
+}
+
+// The key of the entry under a pair: a copy of each part, which no method of arrays says more plainly.
+// The clauses office and reference hand on the lengths that the pair's types give, to proofs that do not see the pair.
 pub fn entry_key(pair: &Pair) -> [u8; 13]
     ensures is { result ≡ pair_key pair.now }
     ensures office { length pair.now.office ≡ 5 }
     ensures reference { length pair.now.reference ≡ 8 }
 {
     let mut key = [0u8; 13];
-    key[5..13].copy_from_slice(&pair.reference);
-    key[0..5].copy_from_slice(&pair.office);
+    key[5..].copy_from_slice(&pair.reference);
+    key[..5].copy_from_slice(&pair.office);
     key
 }
 
@@ -57,7 +67,7 @@ impl EntryRow {
         }
     }
 
-    // The row of a new entry.
+    // The row of a new entry. The clause office hands on a length of the pair's.
     pub fn new(pair: &Pair, new: NewEntry) -> EntryRow
         ensures means { entry_of result ≡ fresh pair.now new }
         ensures key { entry_code result ≡ pair_key pair.now }
@@ -93,12 +103,8 @@ impl EntryRow {
     pub fn sought(&self) -> Option<Sought>
         ensures { option_map sought_told result ≡ (if sound_entry self.now then Some (drop 5 self.now.key, entry_told (entry_of self.now)) else None) }
     {
-        let mut reference = [0u8; 8];
-        reference.copy_from_slice(&self.key[5..13]);
-        match self.entry() {
-            Some(entry) => Some(Sought { reference, entry }),
-            None => None,
-        }
+        let reference = *self.key.last_chunk().unwrap();
+        self.entry().map(|entry| Sought { reference, entry })
     }
 
     // Is the open amount as large as this.
@@ -112,8 +118,7 @@ impl EntryRow {
     fn is_open(&self, office: &[u8; 5]) -> bool
         ensures { result ≡ seekable office.now (entry_of self.now) }
     {
-        let front = &self.key[0..5];
-        front == office.as_slice() && is_adjustable(self.set_id) && self.left > 0
+        self.key.starts_with(office) && is_adjustable(self.set_id) && self.left > 0
     }
 }
 
@@ -121,14 +126,7 @@ impl EntryRow {
 pub fn is_adjustable(set_id: SetId) -> bool
     ensures { result ≡ adjustable set_id }
 {
-    match set_id {
-        SetId::Payment => true,
-        SetId::Collection => true,
-        SetId::ReceiverAdjustment => false,
-        SetId::SenderAdjustment => false,
-        SetId::ZeroDollar => false,
-        SetId::PostSgl => false,
-    }
+    matches!(set_id, SetId::Payment | SetId::Collection)
 }
 
 // Where the first row stands that seek may answer.
@@ -136,10 +134,7 @@ pub fn first_open(rows: &[EntryRow], office: &[u8; 5]) -> Option<usize>
     ensures at { OpenAt office.now rows.now result }
     ensures office { length office.now ≡ 5 }
 {
-    for i in 0..rows.len() {
-        if rows[i].is_open(office) {
-            return Some(i);
-        }
-    }
-    None
+    // Read here, so that its length is known.
+    let office = *office;
+    rows.iter().position(|row| row.is_open(&office))
 }

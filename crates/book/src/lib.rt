@@ -29,6 +29,7 @@ pub mod mark_row;
 pub mod new_entry;
 pub mod places;
 pub mod sought;
+pub mod tables;
 
 // Four actions, which a book refuses without change, and the questions, which change nothing.
 pub trait Book {

@@ -4,7 +4,7 @@ ghost use Rattle.std.specs.Option.{option_map};
 ghost use Rattle.book.specs.Meaning.{line_under, line_told};
 ghost use Rattle.book.specs.Told.{line_number_told};
 ghost use Rattle.book.specs.Stands.{is_line_number};
-ghost use Rattle.book.specs.Rows.{line_key, line_of, line_code, sound_line, unused_line};
+ghost use Rattle.book.specs.Rows.{digits_of, line_key, line_of, line_code, sound_line, unused_line};
 
 use super::entry_row::entry_key;
 use super::line::Line;
@@ -12,7 +12,8 @@ use super::line_number::LineNumber;
 use layout::pair::Pair;
 use ordered::Keyed;
 
-#[derive(Clone, Copy)]
+// The parts of a line are fields by themselves and not one Line, as the definitions read them.
+#[derive(Clone, Copy, PartialEq, Eq, Debug, Default)]
 pub struct LineRow {
     pub amount: u64,
     pub key: [u8; 19],
@@ -43,22 +44,25 @@ impl LineNumber {
     }
 }
 
-// The key of the line with a number under a pair.
+// Writes a number in as many digits as there are places, from the last on.
+fn write_digits(places: &mut [u8], number: u16)
+    ensures { places.new ≡ digits_of (length places.old) number }
+{
+    if let Some((last, front)) = places.split_last_mut() {
+        *last = b'0' + (number % 10) as u8;
+        write_digits(front, number / 10);
+    }
+}
+
+// The key of the line with a number under a pair. The clauses office and reference hand on the pair's lengths.
 pub fn line_key(pair: &Pair, number: LineNumber) -> [u8; 19]
     ensures is { result ≡ line_key pair.now number.value }
     ensures office { length pair.now.office ≡ 5 }
     ensures reference { length pair.now.reference ≡ 8 }
 {
-    let front = entry_key(pair);
-    let n = number.value;
-    let mut key = [b'0'; 19];
-    key[0..13].copy_from_slice(&front);
-    key[13] = 48 + (n / 10 / 10 / 10 / 10 / 10 % 10) as u8;
-    key[14] = 48 + (n / 10 / 10 / 10 / 10 % 10) as u8;
-    key[15] = 48 + (n / 10 / 10 / 10 % 10) as u8;
-    key[16] = 48 + (n / 10 / 10 % 10) as u8;
-    key[17] = 48 + (n / 10 % 10) as u8;
-    key[18] = 48 + (n % 10) as u8;
+    let mut key = [0; 19];
+    key[..13].copy_from_slice(&entry_key(pair));
+    write_digits(&mut key[13..], number.value);
     key
 }
 
@@ -67,15 +71,10 @@ impl LineRow {
     pub fn unused() -> LineRow
         ensures { result ≡ unused_line }
     {
-        LineRow {
-            amount: 0,
-            key: [0; 19],
-            sender: [0; 27],
-            receiver: [0; 27],
-        }
+        LineRow::default()
     }
 
-    // The row of a line.
+    // The row of a line. The clauses office and reference hand on the pair's lengths.
     pub fn new(pair: &Pair, number: LineNumber, line: &Line) -> LineRow
         ensures means { line_of result ≡ line_under pair.now number.value line.now }
         ensures key { line_code result ≡ line_key pair.now number.value }

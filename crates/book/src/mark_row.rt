@@ -7,7 +7,8 @@ ghost use Rattle.book.specs.Rows.{mark_of, mark_code, sound_mark, unused_mark};
 use super::mark::{Counts, Mark};
 use ordered::Keyed;
 
-#[derive(Clone, Copy)]
+// The counts of a mark are fields by themselves and not one Mark, as the definitions read them.
+#[derive(Clone, Copy, PartialEq, Eq, Debug, Default)]
 pub struct MarkRow {
     pub accepted: u32,
     pub rejected: u32,
@@ -29,11 +30,7 @@ impl MarkRow {
     pub fn unused() -> MarkRow
         ensures { result ≡ unused_mark }
     {
-        MarkRow {
-            accepted: 0,
-            rejected: 0,
-            key: [0; 19],
-        }
+        MarkRow::default()
     }
 
     // The row of a mark.
@@ -70,12 +67,8 @@ pub fn sum_counts(rows: &[MarkRow]) -> Counts
     requires { length rows.now ≤ 65536 }
     ensures { result ≡ counted_in (map mark_of rows.now) }
 {
-    let mut accepted: u64 = 0;
-    let mut rejected: u64 = 0;
-    for row in rows {
-        let mark = row.mark();
-        accepted += u64::from(mark.accepted);
-        rejected += u64::from(mark.rejected);
+    Counts {
+        accepted: rows.iter().map(|row| u64::from(row.accepted)).sum(),
+        rejected: rows.iter().map(|row| u64::from(row.rejected)).sum(),
     }
-    Counts { accepted, rejected }
 }

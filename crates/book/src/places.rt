@@ -1,5 +1,5 @@
 // How many more a book can hold.
-#[derive(Clone, Copy)]
+#[derive(Clone, Copy, PartialEq, Eq, Debug)]
 pub struct FreePlaces {
     pub entries: usize,
     pub lines: usize,

@@ -1,7 +1,7 @@
 // An entry that seek found, with the reference that it stands under.
 use super::entry::Entry;
 
-#[derive(Clone, Copy)]
+#[derive(Clone, Copy, PartialEq, Eq, Debug)]
 pub struct Sought {
     pub reference: [u8; 8],
     pub entry: Entry,

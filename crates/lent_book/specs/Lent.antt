@@ -1,13 +1,16 @@
--- What the three tables of a lent book mean, and what they keep.
+-- What the three tables of a lent book mean.
 -- Assumes nothing.
-use Rattle.std.specs.Prelude.{◌≤◌}
-use Rattle.ordered.specs.Tables.{shown, Fine}
+use Rattle.ordered.specs.Tables.{shown}
+use Rattle.ordered.specs.declared.table.Table.{Table}
 use Rattle.book.specs.Meaning.{BookMeaning}
-use Rattle.book.specs.Rows.{entry_code, line_code, mark_code, sound_entry, sound_line, sound_mark, rows_mean}
-use Rattle.lent_book.specs.declared.tables.Tables.{Tables}
+use Rattle.book.specs.Rows.{rows_mean}
+use Rattle.book.specs.declared.entry_row.EntryRow.{EntryRow}
+use Rattle.book.specs.declared.line_row.LineRow.{LineRow}
+use Rattle.book.specs.declared.mark_row.MarkRow.{MarkRow}
+use Rattle.book.specs.declared.tables.Tables.{Tables}
 
-abbrev pub lent_means : Tables → BookMeaning
-lent_means t = rows_mean (shown t.entries) (shown t.lines) (shown t.marks) t.entries.places t.lines.places t.marks.places
-
-abbrev pub FineTables : Tables → Type 0
-FineTables t = Fine entry_code sound_entry t.entries × Fine line_code sound_line t.lines × Fine mark_code sound_mark t.marks × (t.marks.places ≤ 65536)
+-- e to m: what the tables' types ask of their rows (each row is Keyed);
+-- x to z: what Tables asks of its three tables (each Keeps its kind of row)
+module _ {e l m x y z : _} where
+  abbrev pub lent_means : Tables (Table EntryRow e) (Table LineRow l) (Table MarkRow m) x y z → BookMeaning
+  lent_means t = rows_mean (shown t.entries) (shown t.lines) (shown t.marks) t.entries.places t.lines.places t.marks.places

@@ -3,9 +3,8 @@
 
 ghost use Rattle.std.specs.Prelude.{◌≡◌, ℕ, min, length};
 ghost use Rattle.book.specs.Meaning.{empty_book};
-ghost use Rattle.lent_book.specs.Lent.{lent_means, FineTables};
+ghost use Rattle.lent_book.specs.Lent.{lent_means};
 
-use self::tables::Tables;
 use book::Book;
 use book::entry::Entry;
 use book::entry_row::EntryRow;
@@ -18,14 +17,20 @@ use book::mark_row::MarkRow;
 use book::new_entry::NewEntry;
 use book::places::FreePlaces;
 use book::sought::Sought;
+use book::tables::Tables;
 use layout::pair::Pair;
+use ordered::table::Table;
 
-mod tables;
+// How many places a lent book uses at most.
+const MOST_ENTRIES: usize = 65_536;
+
+const MOST_LINES: usize = 1_048_576;
+
+const MOST_MARKS: usize = 65_536;
 
 #[derive(Drop)]
 pub struct LentBook<'a> {
-    tables: Tables<'a>,
-    ghost fine: { FineTables tables },
+    tables: Tables<Table<'a, EntryRow>, Table<'a, LineRow>, Table<'a, MarkRow>>,
 }
 
 impl<'a> LentBook<'a> {
@@ -38,11 +43,16 @@ impl<'a> LentBook<'a> {
         ensures { lent_means result.tables ≡ empty_book (min 65536 (length entries.old)) (min 1048576 (length lines.old)) (min 65536 (length marks.old)) }
     {
         LentBook {
-            tables: Tables::new(entries, lines, marks),
+            tables: Tables {
+                entries: Table::new(entries, MOST_ENTRIES),
+                lines: Table::new(lines, MOST_LINES),
+                marks: Table::new(marks, MOST_MARKS),
+            },
         }
     }
 }
 
+// Hands each call on to the tables: a `new` of its own needs a type of its own, and that an impl of its own.
 impl Book for LentBook<'_> {
     ghost meaning = { λ b. lent_means b.tables };
 
@@ -92,6 +102,6 @@ impl Book for LentBook<'_> {
     }
 
     fn stands(&self) {
-        self.tables.stand();
+        self.tables.stands();
     }
 }

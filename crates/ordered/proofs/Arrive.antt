@@ -1,11 +1,12 @@
 -- Records in order of arrival, and the same records in the order of their keys.
 -- Assumes nothing.
-use Rattle.std.proofs.Common.{◌≡◌, ℕ, zero, suc, ◌+◌, ◌<◌, Bool, true, false, cond, not, ◌&&◌, ◌⊎◌, List, [], ◌∷◌, ◌++◌, length, get_or, set, is_some, Some, None, Decides, Option, Ordering, Less, Equal, Greater, sym, refl, ap, ◌∙◌, subst, inl, inr, ⊎_elim, true≢false, arith}
+use Rattle.std.proofs.Common.{◌≡◌, ℕ, zero, suc, ◌<◌, Bool, true, false, cond, not, ◌&&◌, ◌⊎◌, List, [], ◌∷◌, ◌++◌, length, get_or, set, is_some, Some, None, Option, Ordering, Less, Equal, Greater, sym, refl, ap, ◌∙◌, subst, inl, inr, ⊎_elim, true≢false, arith}
 use Rattle.std.specs.Ordering.{is_lt, is_eq}
-use Rattle.std.proofs.lemmas.List.{get_or_read}
-use Rattle.std.proofs.lemmas.Bool.{and_parts, and_from, cases_lt, cases_Bool, cond-true, cond-false, not-true, not_from_false}
+use Rattle.std.proofs.lemmas.Bool.{and_parts, and_from, cases_Bool, cond-true, cond-false, not-true, not_from_false}
 use Rattle.ordered.specs.Order.{TotalOrder, leads, ascends, held, entered, altered, sorted, apart, First, Nowhere}
-use Rattle.ordered.proofs.Ascending.{level, itself, turn_less, turn_greater, is_less, is_equal}
+use Rattle.std.proofs.lemmas.Cmp.{tied_itself}
+use Rattle.ordered.specs.Laws.{is_less}
+use Rattle.ordered.proofs.Ascending.{level, laws, turn_less, turn_greater, is_equal}
 
 exchange : {A : Type 0} (p q : Bool) (a b c : A) → (p ≡ true → q ≡ true → ⊥) → cond p a (cond q b c) ≡ cond q b (cond p a c)
 exchange true true a b c n = absurd (n refl refl)
@@ -18,13 +19,13 @@ module _ {K : Type 0} (rank : K → K → Ordering) (total : TotalOrder rank) wh
   eq_same a b h = total.same a b (is_equal (rank a b) h)
 
   pub same_eq : (a b : K) → a ≡ b → is_eq (rank a b) ≡ true
-  same_eq a b e = ap (λ t. is_eq (rank a t)) (sym e) ∙ ap is_eq (itself rank total a)
+  same_eq a b e = ap (λ t. is_eq (rank a t)) (sym e) ∙ ap is_eq (tied_itself (laws rank total) a)
 
   pub apart_eq : (a b : K) → (a ≡ b → ⊥) → is_eq (rank a b) ≡ false
   apart_eq a b n = ⊎_elim (λ h. absurd (n (eq_same a b h))) (λ h. h) (cases_Bool (is_eq (rank a b)))
 
-  less_apart : (a b : K) → is_lt (rank a b) ≡ true → a ≡ b → ⊥
-  less_apart a b h e = true≢false (sym h ∙ (ap (λ t. is_lt (rank a t)) (sym e) ∙ ap is_lt (itself rank total a)))
+  pub less_apart : (a b : K) → is_lt (rank a b) ≡ true → a ≡ b → ⊥
+  less_apart a b h e = true≢false (sym h ∙ (ap (λ t. is_lt (rank a t)) (sym e) ∙ ap is_lt (tied_itself (laws rank total) a)))
 
   -- of two keys that differ one comes before the other
   one_first : (a b : K) (o : Ordering) → rank a b ≡ o → (a ≡ b → ⊥) → ((is_lt (rank a b) ≡ true) × (is_lt (rank b a) ≡ false)) ⊎ ((is_lt (rank a b) ≡ false) × (is_lt (rank b a) ≡ true))
@@ -40,10 +41,6 @@ module _ {K : Type 0} (rank : K → K → Ordering) (total : TotalOrder rank) wh
 
   between : (a b c : K) → is_lt (rank c a) ≡ false → is_lt (rank c b) ≡ true → is_lt (rank a b) ≡ true
   between a b c l m = between_by a b c (rank c a) refl l m
-
-  -- the other way round
-  not_before : (a b : K) → is_lt (rank a b) ≡ true → is_lt (rank b a) ≡ false
-  not_before a b h = ap is_lt (turn_less rank total a b (is_less (rank a b) h))
 
   module _ {X : Type 0} (key : X → K) where
     go_on : (x y : X) (ys : List X) → is_lt (rank (key y) (key x)) ≡ true → entered rank key x (y ∷ ys) ≡ y ∷ entered rank key x ys
@@ -233,6 +230,13 @@ module _ {K : Type 0} (rank : K → K → Ordering) (total : TotalOrder rank) wh
     not_there : (k : K) (y : X) (ys : List X) → held rank key k (y ∷ ys) ≡ None → key y ≡ k → ⊥
     not_there k y ys n e = true≢false (ap is_some (sym (cond-true (is_eq (rank (key y) k)) (Some y) (held rank key k ys) (same_eq (key y) k e)) ∙ n))
 
+    -- no record has a key that is not held
+    pub missed : (k : K) (xs : List X) → held rank key k xs ≡ None → (n : ℕ) → Missed k xs n
+    missed k [] h n j d a b e = absurd (omega arith)
+    missed k (x ∷ xs) h n zero d a b e = not_there k x xs h e
+    missed k (x ∷ xs) h n (suc j) d a b e =
+        missed k xs (sym (cond-false (is_eq (rank (key x) k)) (Some x) (held rank key k xs) (apart_eq (key x) k (not_there k x xs h))) ∙ h) n j d (omega arith) (omega arith) e
+
     pub ascends_entered : (x : X) (ys : List X) → ascends rank key ys ≡ true → held rank key (key x) ys ≡ None → ascends rank key (entered rank key x ys) ≡ true
     ascends_entered x [] h n = refl
     ascends_entered x (y ∷ ys) h n =
@@ -247,23 +251,6 @@ module _ {K : Type 0} (rank : K → K → Ordering) (total : TotalOrder rank) wh
         (⊎_elim (λ o. o.0) (λ o. absurd (true≢false (sym o.1 ∙ b))) (one_first (key x) (key y) (rank (key x) (key y)) refl (λ e. q (sym e))))
         h)
         (cases_Bool (is_lt (rank (key y) (key x))))
-
-    leads_altered : (l k : K) (f : X → X) → ((x : X) → key (f x) ≡ key x) → (xs : List X) → leads rank key l (altered rank key k f xs) ≡ leads rank key l xs
-    leads_altered l k f keeps [] = refl
-    leads_altered l k f keeps (x ∷ xs) =
-        ⊎_elim
-        (λ b. ap (leads rank key l) (cond-true (is_eq (rank (key x) k)) (f x ∷ xs) (x ∷ altered rank key k f xs) b) ∙ ap (λ t. is_lt (rank l t)) (keeps x))
-        (λ b. ap (leads rank key l) (cond-false (is_eq (rank (key x) k)) (f x ∷ xs) (x ∷ altered rank key k f xs) b))
-        (cases_Bool (is_eq (rank (key x) k)))
-
-    pub ascends_altered : (k : K) (f : X → X) → ((x : X) → key (f x) ≡ key x) → (xs : List X) → ascends rank key (altered rank key k f xs) ≡ ascends rank key xs
-    ascends_altered k f keeps [] = refl
-    ascends_altered k f keeps (x ∷ xs) =
-        ⊎_elim
-        (λ b. ap (ascends rank key) (cond-true (is_eq (rank (key x) k)) (f x ∷ xs) (x ∷ altered rank key k f xs) b) ∙ ap (λ t. leads rank key t xs && ascends rank key xs) (keeps x))
-        (λ b. ap (ascends rank key) (cond-false (is_eq (rank (key x) k)) (f x ∷ xs) (x ∷ altered rank key k f xs) b)
-        ∙ (λ i. leads_altered (key x) k f keeps xs i && ascends_altered k f keeps xs i))
-        (cases_Bool (is_eq (rank (key x) k)))
 
     some_held_set : (k : K) (xs : List X) (i : ℕ) (y d : X) → key y ≡ key (get_or xs i d) → is_some (held rank key k (set xs i y)) ≡ is_some (held rank key k xs)
     some_held_set k [] i y d e = refl
@@ -307,15 +294,3 @@ module _ {K : Type 0} (rank : K → K → Ordering) (total : TotalOrder rank) wh
     -- a record is what is held under its own key
     pub held_at_own : (xs : List X) (i : ℕ) (d : X) → apart rank key xs ≡ true → i < length xs → held rank key (key (get_or xs i d)) (sorted rank key xs) ≡ Some (get_or xs i d)
     held_at_own xs i d h l = held_sorted (key (get_or xs i d)) xs ∙ held_own xs i d h l
-
-    -- ---- what a test of a record's key says
-
-    pub hit : (k : K) (xs : List X) (i : ℕ) (x : X) (b : K) (r : Bool) → i < length xs → x ≡ get_or xs i x → b ≡ key x → Decides r (b ≡ k) → r ≡ true → (d : X) → key (get_or xs i d) ≡ k
-    hit k xs i x b r l e q h t d = ap key (sym (get_or_read xs i x l e d)) ∙ (sym q ∙ h.0 t)
-
-    pub miss : (k : K) (xs : List X) (i : ℕ) (x : X) (b : K) (r : Bool) → i < length xs → x ≡ get_or xs i x → b ≡ key x → Decides r (b ≡ k) → r ≡ false → Missed k xs i → Missed k xs (i + 1)
-    miss k xs i x b r l e q h t n j d a c s =
-        ⊎_elim (λ m. n j d m c s)
-        (λ m. let p : j ≡ i = omega arith in
-        true≢false (sym (h.1 (q ∙ (ap key (get_or_read xs i x l e d) ∙ (ap (λ v. key (get_or xs v d)) (sym p) ∙ s)))) ∙ t))
-        (cases_lt j i)

@@ -1,12 +1,13 @@
 -- What a search in records in ascending order rests on.
 -- Assumes nothing.
-use Rattle.std.proofs.Common.{◌≡◌, ℕ, zero, suc, ◌+◌, ◌<◌, ◌≤◌, true, cond, ◌&&◌, ◌⊎◌, List, [], ◌∷◌, length, get_or, set, is_some, Some, None, Ordering, Less, Equal, Greater, sym, refl, ap, ◌∙◌, subst, inl, inr, ⊎_elim, true≢false, arith}
-use Rattle.std.proofs.lemmas.Bool.{cases_lt, eqb-true, and_parts, and_from}
-use Rattle.std.proofs.lemmas.List.{get_or_read}
-use Rattle.std.specs.Cmp.{unsigned_tied, nat_cmp_total}
+use Rattle.std.proofs.Common.{◌≡◌, ℕ, zero, suc, ◌<◌, ◌≤◌, true, cond, ◌&&◌, List, [], ◌∷◌, length, get_or, set, is_some, Some, None, Ordering, Less, Equal, Greater, sym, refl, ap, ◌∙◌, subst, true≢false, arith}
+use Rattle.std.proofs.lemmas.Bool.{eqb-true, and_parts, and_from}
+use Rattle.std.specs.Cmp.{IsTotalOrder, unsigned_tied, nat_cmp_total}
+use Rattle.std.proofs.lemmas.Cmp.{alike_right}
 use Rattle.std.specs.Ordering.{is_lt, is_eq, is_gt, ordering_reverse, ordering_then, nat_cmp}
 use Rattle.std.specs.Cmp.Lexicographic.{lists_total}
 use Rattle.std.specs.List.{insert}
+use Rattle.ordered.specs.Laws.{is_less}
 use Rattle.ordered.specs.Order.{ranks, TotalOrder, leads, ascends, held, entered, altered, Here, Gap}
 
 -- ---- the order of bytes
@@ -25,16 +26,6 @@ same_bytes (x ∷ xs) (y ∷ ys) h = first_two x y xs ys (nat_cmp x y) refl h (s
 pub bytewise : TotalOrder ranks
 bytewise = record { chain = (lists_total nat_cmp_total).trans; turn = (lists_total nat_cmp_total).antisymm; same = same_bytes }
 
--- what the comparison with the record at m says
-pub told : {X : Type 0} (key : X → List ℕ) (xs : List X) (m : ℕ) (x : X) (b k : List ℕ) (r o : Ordering) → m < length xs → x ≡ get_or xs m x → b ≡ key x → r ≡ ranks b k → r ≡ o → (d : X) → ranks (key (get_or xs m d)) k ≡ o
-told key xs m x b k r o l e q h p d =
-    ap (λ y. ranks (key y) k) (sym (get_or_read xs m x l e d)) ∙ (ap (λ y. ranks y k) (sym q) ∙ (sym h ∙ p))
-
-pub is_less : (o : Ordering) → is_lt o ≡ true → o ≡ Less
-is_less Less h = refl
-is_less Equal h = absurd (true≢false (sym h))
-is_less Greater h = absurd (true≢false (sym h))
-
 pub is_equal : (o : Ordering) → is_eq o ≡ true → o ≡ Equal
 is_equal Less h = absurd (true≢false (sym h))
 is_equal Equal h = refl
@@ -52,15 +43,9 @@ module _ {K : Type 0} (rank : K → K → Ordering) (total : TotalOrder rank) wh
   pub level : (a b c : K) → rank a b ≡ Equal → rank a c ≡ rank b c
   level a b c h = ap (λ t. rank t c) (total.same a b h)
 
-  pub level_right : (a b c : K) → rank a b ≡ Equal → rank c a ≡ rank c b
-  level_right a b c h = ap (rank c) (total.same a b h)
-
-  pub itself : (a : K) → rank a a ≡ Equal
-  itself a = own (rank a a) refl where
-    own : (o : Ordering) → rank a a ≡ o → rank a a ≡ Equal
-    own Less h = absurd (true≢false (ap is_lt (sym h ∙ turn_less a a h)))
-    own Equal h = h
-    own Greater h = absurd (true≢false (ap is_gt (sym h ∙ turn_greater a a h)))
+  -- the same laws as the library states them
+  pub laws : IsTotalOrder rank
+  laws = record { antisymm = total.turn; trans = total.chain; congr = level }
 
   module _ {X : Type 0} (key : X → K) where
     -- each key of xs comes after k
@@ -80,10 +65,6 @@ module _ {K : Type 0} (rank : K → K → Ordering) (total : TotalOrder rank) wh
         total.chain k (key x) (key (get_or xs j d)) (is_less (rank k (key x)) l)
         (above (key x) xs (head_of x xs h) (tail_of x xs h) j d (omega arith))
 
-    leads_above : (k : K) (xs : List X) → Above k xs → leads rank key k xs ≡ true
-    leads_above k [] f = refl
-    leads_above k (x ∷ xs) f = ap is_lt (f zero x (omega arith))
-
     -- an earlier key comes before a later one
     pub far : (xs : List X) → ascends rank key xs ≡ true → (i j : ℕ) (d : X) → i < j → j < length xs → rank (key (get_or xs i d)) (key (get_or xs j d)) ≡ Less
     far [] h i j d l b = absurd (omega arith)
@@ -99,41 +80,20 @@ module _ {K : Type 0} (rank : K → K → Ordering) (total : TotalOrder rank) wh
     abbrev pub High : K → List X → ℕ → Type 0
     High k xs n = (i : ℕ) (d : X) → n ≤ i → i < length xs → rank (key (get_or xs i d)) k ≡ Greater
 
-    low_by : (k : K) (xs : List X) (m i : ℕ) (d : X) → ascends rank key xs ≡ true → m < length xs → rank (key (get_or xs m d)) k ≡ Less → (i < m) ⊎ (i ≡ m) → rank (key (get_or xs i d)) k ≡ Less
-    low_by k xs m i d h b e (inl l) = total.chain (key (get_or xs i d)) (key (get_or xs m d)) k (far xs h i m d l b) e
-    low_by k xs m i d h b e (inr p) = ap (λ n. rank (key (get_or xs n d)) k) p ∙ e
-
-    high_by : (k : K) (xs : List X) (m i : ℕ) (d : X) → ascends rank key xs ≡ true → i < length xs → rank (key (get_or xs m d)) k ≡ Greater → (m < i) ⊎ (i ≡ m) → rank (key (get_or xs i d)) k ≡ Greater
-    high_by k xs m i d h b e (inl l) =
-        turn_less k (key (get_or xs i d)) (total.chain k (key (get_or xs m d)) (key (get_or xs i d)) (turn_greater (key (get_or xs m d)) k e) (far xs h m i d l b))
-    high_by k xs m i d h b e (inr p) = ap (λ n. rank (key (get_or xs n d)) k) p ∙ e
-
-    split_under : (i m : ℕ) → i < m + 1 → (i < m) ⊎ (i ≡ m)
-    split_under i m h = ⊎_elim inl (λ n. inr (omega arith)) (cases_lt i m)
-
-    split_over : (i m : ℕ) → m ≤ i → (m < i) ⊎ (i ≡ m)
-    split_over i m h = ⊎_elim inl (λ n. inr (omega arith)) (cases_lt m i)
-
-    pub low_more : (k : K) (xs : List X) (m : ℕ) → ascends rank key xs ≡ true → m < length xs → ((d : X) → rank (key (get_or xs m d)) k ≡ Less) → Low k xs (m + 1)
-    low_more k xs m h b e i d l _ = low_by k xs m i d h b (e d) (split_under i m l)
-
-    pub high_at : (k : K) (xs : List X) (m : ℕ) → ascends rank key xs ≡ true → ((d : X) → rank (key (get_or xs m d)) k ≡ Greater) → High k xs m
-    high_at k xs m h e i d l b = high_by k xs m i d h b (e d) (split_over i m l)
-
     -- ---- a key that is held
 
     held_at : (k : K) (xs : List X) (i : ℕ) (d : X) → ascends rank key xs ≡ true → i < length xs → rank (key (get_or xs i d)) k ≡ Equal → held rank key k xs ≡ Some (get_or xs i d)
     held_at k [] i d h b e = absurd (omega arith)
     held_at k (x ∷ xs) zero d h b e = ap (λ o. cond (is_eq o) (Some x) (held rank key k xs)) e
     held_at k (x ∷ xs) (suc i) d h b e =
-        ap (λ o. cond (is_eq o) (Some x) (held rank key k xs)) (sym (level_right (key (get_or xs i d)) k (key x) e) ∙ far (x ∷ xs) h zero (suc i) d (omega arith) b)
+        ap (λ o. cond (is_eq o) (Some x) (held rank key k xs)) (sym (alike_right laws (key (get_or xs i d)) k (key x) e) ∙ far (x ∷ xs) h zero (suc i) d (omega arith) b)
         ∙ held_at k xs i d (tail_of x xs h) (omega arith) e
 
     altered_at : (k : K) (f : X → X) (xs : List X) (i : ℕ) (d : X) → ascends rank key xs ≡ true → i < length xs → rank (key (get_or xs i d)) k ≡ Equal → altered rank key k f xs ≡ set xs i (f (get_or xs i d))
     altered_at k f [] i d h b e = absurd (omega arith)
     altered_at k f (x ∷ xs) zero d h b e = ap (λ o. cond (is_eq o) (f x ∷ xs) (x ∷ altered rank key k f xs)) e
     altered_at k f (x ∷ xs) (suc i) d h b e =
-        ap (λ o. cond (is_eq o) (f x ∷ xs) (x ∷ altered rank key k f xs)) (sym (level_right (key (get_or xs i d)) k (key x) e) ∙ far (x ∷ xs) h zero (suc i) d (omega arith) b)
+        ap (λ o. cond (is_eq o) (f x ∷ xs) (x ∷ altered rank key k f xs)) (sym (alike_right laws (key (get_or xs i d)) k (key x) e) ∙ far (x ∷ xs) h zero (suc i) d (omega arith) b)
         ∙ ap (λ t. x ∷ t) (altered_at k f xs i d (tail_of x xs h) (omega arith) e)
 
     leads_level : (a b : K) (xs : List X) → rank a b ≡ Equal → leads rank key a xs ≡ leads rank key b xs
@@ -142,7 +102,7 @@ module _ {K : Type 0} (rank : K → K → Ordering) (total : TotalOrder rank) wh
 
     leads_set : (k : K) (xs : List X) (i : ℕ) (y d : X) → rank (key (get_or xs i d)) (key y) ≡ Equal → leads rank key k xs ≡ leads rank key k (set xs i y)
     leads_set k [] i y d e = refl
-    leads_set k (x ∷ xs) zero y d e = ap is_lt (level_right (key x) (key y) k e)
+    leads_set k (x ∷ xs) zero y d e = ap is_lt (alike_right laws (key x) (key y) k e)
     leads_set k (x ∷ xs) (suc i) y d e = refl
 
     -- another record of the same key

@@ -1,6 +1,6 @@
 -- Records that all pass a test, and what an action on them leaves.
 -- Assumes nothing.
-use Rattle.std.proofs.Common.{◌≡◌, ℕ, zero, suc, ◌<◌, Bool, true, false, cond, List, [], ◌∷◌, ◌++◌, length, get_or, set, Ordering, refl, arith}
+use Rattle.std.proofs.Common.{◌≡◌, ℕ, zero, suc, ◌<◌, Bool, true, false, cond, List, [], ◌∷◌, length, get_or, set, Ordering, refl, arith}
 use Rattle.std.specs.Ordering.{is_lt}
 use Rattle.std.specs.List.{insert}
 use Rattle.std.proofs.lemmas.Bool.{and_parts, and_from}
@@ -22,10 +22,6 @@ module _ {X : Type 0} (t : X → Bool) where
   every_at [] i d h l = absurd (omega arith)
   every_at (y ∷ ys) zero d h l = (and_parts (t y) (every t ys) h).0
   every_at (y ∷ ys) (suc i) d h l = every_at ys i d (and_parts (t y) (every t ys) h).1 (omega arith)
-
-  pub every_push : (xs : List X) (x : X) → every t xs ≡ true → t x ≡ true → every t (xs ++ x ∷ []) ≡ true
-  every_push [] x h l = and_from _ _ l refl
-  every_push (y ∷ ys) x h l = let p = and_parts (t y) (every t ys) h in and_from _ _ p.0 (every_push ys x p.1 l)
 
   module _ {K : Type 0} (rank : K → K → Ordering) (key : X → K) where
     pub every_entered : (x : X) (xs : List X) → every t xs ≡ true → t x ≡ true → every t (entered rank key x xs) ≡ true

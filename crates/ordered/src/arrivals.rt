@@ -1,113 +1,77 @@
 // A table of at most N records that it holds in itself, in order of arrival.
-ghost use Rattle.std.specs.Prelude.{◌≡◌, ℕ, ◌+◌, ◌-◌, ◌<◌, ◌≤◌, true, [], is_ok, if◌then◌else◌, slice_set};
-ghost use Rattle.ordered.specs.Order.{ranks, held, entered, adds, Scanned};
-ghost use Rattle.ordered.specs.Tables.{arrived, listed, FineArrivals};
+ghost use Rattle.std.specs.Prelude.{◌≡◌, ℕ, ◌+◌, ◌-◌, ◌<◌, ◌≤◌, true, [], length};
+ghost use Rattle.ordered.specs.Order.{ranks, apart, every};
 
 use super::Keyed;
+use super::keeps::Keeps;
 use super::refusal::Refusal;
-use super::search::{pick, scan};
+use arrayvec::ArrayVec;
 
-// The records are the first `n` of `rows`.
-#[derive(Clone, Copy)]
-pub struct Arrivals<T, const N: usize> {
-    pub rows: [T; N],
-    pub n: usize,
+// The records, as they came: no two under one key.
+#[derive(Drop)]
+pub struct Arrivals<T: Keyed, const N: usize> {
+    pub rows: ArrayVec<T, N>,
+    ghost fits: { length rows.items ≤ N },
+    ghost apart: { apart ranks T.Keyed.code rows.items ≡ true },
+    ghost all_sound: { every T.Keyed.sound rows.items ≡ true },
 }
 
-impl<T: Keyed, const N: usize> Arrivals<T, N> {
-    // An empty table; `row` fills the places.
-    pub fn new(row: T) -> Arrivals<T, N>
-        ensures none { arrived result ≡ [] }
-        ensures fine { FineArrivals T.Keyed.code T.Keyed.sound result }
+impl<T: Keyed + Default, const N: usize> Arrivals<T, N> {
+    ghost use Rattle.ordered.specs.Tables.{arrived};
+
+    // An empty table. The rows have a default, which fills the places that are not used.
+    pub fn new() -> Arrivals<T, N>
+        ensures { arrived result ≡ [] }
     {
         Arrivals {
-            rows: [row; N],
-            n: 0,
+            rows: ArrayVec::new(),
         }
     }
+}
 
-    // Where the record with this key stands.
-    pub fn seek(&self, key: &[u8]) -> Option<usize>
-        requires { FineArrivals T.Keyed.code T.Keyed.sound self.now }
-        ensures { Scanned ranks T.Keyed.code key.now (arrived self.now) result }
-    {
-        let n = self.n;
-        let all = &self.rows[..];
-        scan(&all[0..n], key)
+impl<T: Keyed, const N: usize> Keeps<T> for Arrivals<T, N> {
+    ghost use Rattle.ordered.specs.Tables.{arrived, listed};
+    ghost use Rattle.std.specs.Prelude.{refl};
+
+    ghost rows = { arrived };
+
+    ghost listed = { listed T.Keyed.code };
+
+    ghost places = { λ _. N };
+
+    fn records(&self) -> &[T] {
+        &self.rows
     }
 
-    // The record with this key.
-    pub fn get(&self, key: &[u8]) -> Option<T>
-        requires { FineArrivals T.Keyed.code T.Keyed.sound self.now }
-        ensures { result ≡ held ranks T.Keyed.code key.now (listed T.Keyed.code self.now) }
-    {
-        let n = self.n;
-        let all = &self.rows[..];
-        pick(&all[0..n], key)
+    fn position(&self, key: &[u8]) -> Option<usize> {
+        self.rows.iter().position(|row| row.key() == key)
     }
 
-    // The records, as they came.
-    pub fn records(&self) -> &[T]
-        requires { FineArrivals T.Keyed.code T.Keyed.sound self.now }
-        ensures { result.now ≡ arrived self.now }
-    {
-        let end = self.n;
-        let all = &self.rows[..];
-        &all[0..end]
+    fn free(&self) -> usize {
+        self.rows.remaining_capacity()
     }
 
-    // How many more records the table can hold.
-    pub fn free(&self) -> usize
-        requires { FineArrivals T.Keyed.code T.Keyed.sound self.now }
-        ensures { result ≡ N - self.now.n }
-    {
-        N - self.n
-    }
-
-    // What adding a record with this key would answer.
-    pub fn admits(&self, row: &T) -> Result<(), Refusal>
-        requires { FineArrivals T.Keyed.code T.Keyed.sound self.now }
-        ensures { result ≡ adds ranks T.Keyed.code (listed T.Keyed.code self.now) N row.now }
-    {
-        match self.seek(row.key()) {
+    fn add(&mut self, row: T) -> Result<(), Refusal> {
+        // Not by `admits`: a call of it leads back to this impl, and such a cycle is not covered by the check.
+        match self.position(row.key()) {
             Some(_) => Err(Refusal::Held),
+            None if self.rows.is_full() => Err(Refusal::Full),
             None => {
-                if self.n >= N {
-                    Err(Refusal::Full)
-                } else {
-                    Ok(())
-                }
-            }
-        }
-    }
-
-    fn push(&mut self, row: T)
-        requires { self.old.n < N }
-        ensures rows { self.new.rows ≡ slice_set self.old.rows self.old.n row }
-        ensures more { self.new.n ≡ self.old.n + 1 }
-    {
-        let n = self.n;
-        self.rows[n] = row;
-        self.n = n + 1;
-    }
-
-    // Adds a record behind the others.
-    pub fn add(&mut self, row: T) -> Result<(), Refusal>
-        requires fine { FineArrivals T.Keyed.code T.Keyed.sound self.old }
-        requires sound { T.Keyed.sound row ≡ true }
-        ensures answer { result ≡ adds ranks T.Keyed.code (listed T.Keyed.code self.old) N row }
-        ensures after { listed T.Keyed.code self.new ≡ (if is_ok result then entered ranks T.Keyed.code row (listed T.Keyed.code self.old) else listed T.Keyed.code self.old) }
-        ensures fine { FineArrivals T.Keyed.code T.Keyed.sound self.new }
-    {
-        match self.seek(row.key()) {
-            Some(_) => Err(Refusal::Held),
-            None => {
-                if self.n >= N {
-                    return Err(Refusal::Full);
-                }
-                self.push(row);
+                self.rows.push(row);
                 Ok(())
             }
         }
     }
+
+    fn put_over(&mut self, at: usize, row: T) {
+        self.rows[at] = row;
+    }
+
+    ghost in_order = { λ t. refl };
+
+    ghost keys_apart = { λ t. t.apart };
+
+    ghost all_sound = { λ t. t.all_sound };
+
+    ghost fits = { λ t. t.fits };
 }

@@ -5,8 +5,8 @@
 ghost use Rattle.std.specs.Prelude.{◌≡◌, ℕ, Bool, true, List};
 
 pub mod arrivals;
+pub mod keeps;
 pub mod refusal;
-pub mod search;
 pub mod table;
 
 // A record that tells a key of bytes, of the same width in all records of its type.

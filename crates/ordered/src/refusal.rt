@@ -1,5 +1,5 @@
 // Why a record is not added: its key is held already, or every place is used.
-#[derive(Clone, Copy)]
+#[derive(Clone, Copy, PartialEq, Eq, Debug)]
 pub enum Refusal {
     Held,
     Full,

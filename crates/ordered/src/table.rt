@@ -1,130 +1,110 @@
 // A table in the caller's memory, in the order of its records' keys.
-ghost use Rattle.std.specs.Prelude.{◌≡◌, ℕ, ◌+◌, ◌-◌, ◌<◌, ◌≤◌, min, true, [], length, is_ok, if◌then◌else◌, slice_index_or, slice_set};
+ghost use Rattle.std.specs.Prelude.{◌≡◌, ℕ, ◌+◌, ◌-◌, ◌<◌, ◌≤◌, min, true, [], length, take};
 ghost use Rattle.std.specs.List.{insert};
-ghost use Rattle.ordered.specs.Order.{ranks, ascends, every, held, entered, adds, Found};
-ghost use Rattle.ordered.specs.Tables.{shown, Fine};
+ghost use Rattle.ordered.specs.Order.{ranks, ascends, every, shifted_in, Found};
 
 use super::Keyed;
+use super::keeps::Keeps;
 use super::refusal::Refusal;
-use super::search::{find, look_up, place};
 
-// The records are the first `n` of `rows`; the first `places` may be used.
+// The memory is the caller's and fixed: `rows` is all that it lends, whose first `places` may be used, and whose
+// first `n` are the records. So the lengths stand beside the rows, and no vector grows.
 #[derive(Drop)]
-pub struct Table<'a, T> {
+pub struct Table<'a, T: Keyed> {
     pub rows: &'a mut [T],
     pub n: usize,
     pub places: usize,
+    ghost fits: { n ≤ places },
+    ghost given: { places ≤ length rows.now },
+    ghost in_order: { ascends ranks T.Keyed.code (take n rows.now) ≡ true },
+    ghost all_sound: { every T.Keyed.sound (take n rows.now) ≡ true },
+}
+
+// Puts a record in at `at`, and moves those from there on up by one, as one block; the first `n` slots are used before.
+fn place<T: Keyed>(slots: &mut [T], n: usize, at: usize, row: T)
+    requires room { n < length slots.old }
+    requires within { at ≤ n }
+    ensures { slots.new ≡ shifted_in slots.old n at row }
+{
+    slots.copy_within(at..n, at + 1);
+    slots[at] = row;
 }
 
 impl<'a, T: Keyed> Table<'a, T> {
+    ghost use Rattle.ordered.specs.Tables.{shown};
+
     // An empty table that uses the places given, and `most` at most.
     pub fn new(rows: &'a mut [T], most: usize) -> Table<'a, T>
         ensures none { shown result ≡ [] }
         ensures room { result.places ≡ min most (length rows.old) }
-        ensures fine { Fine T.Keyed.code T.Keyed.sound result }
     {
-        let given = rows.len();
-        let places = if most < given { most } else { given };
+        let places = rows.len().min(most);
         Table { rows, n: 0, places }
     }
 
     // Where the record with this key stands, or where it would go.
     pub fn seek(&self, key: &[u8]) -> Result<usize, usize>
-        requires { Fine T.Keyed.code T.Keyed.sound self.now }
         ensures { Found ranks T.Keyed.code key.now (shown self.now) result }
     {
-        let n = self.n;
-        find(&self.rows[0..n], key)
-    }
-
-    // The record with this key.
-    pub fn get(&self, key: &[u8]) -> Option<T>
-        requires { Fine T.Keyed.code T.Keyed.sound self.now }
-        ensures { result ≡ held ranks T.Keyed.code key.now (shown self.now) }
-    {
-        let n = self.n;
-        look_up(&self.rows[0..n], key)
-    }
-
-    // The records, in the order of their keys.
-    pub fn records(&self) -> &[T]
-        requires { Fine T.Keyed.code T.Keyed.sound self.now }
-        ensures { result.now ≡ shown self.now }
-    {
-        let end = self.n;
-        &self.rows[0..end]
-    }
-
-    // How many more records the table can hold.
-    pub fn free(&self) -> usize
-        requires { Fine T.Keyed.code T.Keyed.sound self.now }
-        ensures { result ≡ self.now.places - self.now.n }
-    {
-        self.places - self.n
-    }
-
-    // What adding a record with this key would answer.
-    pub fn admits(&self, row: &T) -> Result<(), Refusal>
-        requires { Fine T.Keyed.code T.Keyed.sound self.now }
-        ensures { result ≡ adds ranks T.Keyed.code (shown self.now) self.now.places row.now }
-    {
-        match self.seek(row.key()) {
-            Ok(_) => Err(Refusal::Held),
-            Err(_) => {
-                if self.n < self.places {
-                    Ok(())
-                } else {
-                    Err(Refusal::Full)
-                }
-            }
-        }
+        self.records().binary_search_by(|row| row.key().cmp(&key))
     }
 
     fn put_in(&mut self, at: usize, row: T)
         requires room { self.old.n < self.old.places }
-        requires given { self.old.places ≤ length self.old.rows.now }
         requires within { at ≤ self.old.n }
+        requires in_order { ascends ranks T.Keyed.code (insert (shown self.old) at row) ≡ true }
+        requires all_sound { every T.Keyed.sound (insert (shown self.old) at row) ≡ true }
         ensures after { shown self.new ≡ insert (shown self.old) at row }
-        ensures given { length self.new.rows.now ≡ length self.old.rows.now }
         ensures room { self.new.places ≡ self.old.places }
-        ensures more { self.new.n ≡ self.old.n + 1 }
     {
-        let n = self.n;
-        place(self.rows, n, at, row);
-        self.n = n + 1;
+        place(self.rows, self.n, at, row);
+        self.n += 1;
+    }
+}
+
+impl<T: Keyed> Keeps<T> for Table<'_, T> {
+    ghost use Rattle.std.proofs.Common.{length-take-le, arith};
+    ghost use Rattle.ordered.specs.Laws.{sorted_same, ascends_apart};
+    ghost use Rattle.ordered.specs.Tables.{shown};
+
+    ghost rows = { shown };
+
+    ghost listed = { shown };
+
+    ghost places = { λ t. t.places };
+
+    fn records(&self) -> &[T] {
+        &self.rows[..self.n]
     }
 
-    // Adds a record in its place.
-    pub fn add(&mut self, row: T) -> Result<(), Refusal>
-        requires fine { Fine T.Keyed.code T.Keyed.sound self.old }
-        requires sound { T.Keyed.sound row ≡ true }
-        ensures answer { result ≡ adds ranks T.Keyed.code (shown self.old) self.old.places row }
-        ensures after { shown self.new ≡ (if is_ok result then entered ranks T.Keyed.code row (shown self.old) else shown self.old) }
-        ensures room { self.new.places ≡ self.old.places }
-        ensures fine { Fine T.Keyed.code T.Keyed.sound self.new }
-    {
+    fn position(&self, key: &[u8]) -> Option<usize> {
+        self.seek(key).ok()
+    }
+
+    fn free(&self) -> usize {
+        self.places - self.n
+    }
+
+    fn add(&mut self, row: T) -> Result<(), Refusal> {
         match self.seek(row.key()) {
             Ok(_) => Err(Refusal::Held),
-            Err(at) => {
-                if self.n >= self.places {
-                    return Err(Refusal::Full);
-                }
+            Err(at) if self.n < self.places => {
                 self.put_in(at, row);
                 Ok(())
             }
+            Err(_) => Err(Refusal::Full),
         }
     }
 
-    // Puts a record in the place of one with the same key.
-    pub fn put_over(&mut self, at: usize, row: T)
-        requires fine { Fine T.Keyed.code T.Keyed.sound self.old }
-        requires within { at < self.old.n }
-        requires same { T.Keyed.code (slice_index_or (shown self.old) at row) ≡ T.Keyed.code row }
-        requires sound { T.Keyed.sound row ≡ true }
-        ensures after { shown self.new ≡ slice_set (shown self.old) at row }
-        ensures room { self.new.places ≡ self.old.places }
-        ensures fine { Fine T.Keyed.code T.Keyed.sound self.new }
-    {
+    fn put_over(&mut self, at: usize, row: T) {
         self.rows[at] = row;
     }
+
+    ghost in_order = { λ t. sorted_same T.Keyed.code (shown t) t.in_order };
+
+    ghost keys_apart = { λ t. ascends_apart T.Keyed.code (shown t) t.in_order };
+
+    ghost all_sound = { λ t. t.all_sound };
+
+    ghost fits = { λ t. Prim.omega (arith, length-take-le t.n t.rows.now (Prim.omega (arith, t.fits, t.given)), t.fits) };
 }

@@ -3,26 +3,27 @@
 
 ghost use Rattle.std.specs.Prelude.{◌≡◌};
 ghost use Rattle.book.specs.Meaning.{empty_book};
-ghost use Rattle.small_book.specs.Small.{small_means, FineTables};
+ghost use Rattle.small_book.specs.Small.{small_means};
 
-use self::tables::Tables;
 use book::Book;
 use book::entry::Entry;
+use book::entry_row::EntryRow;
 use book::fault::BookFault;
 use book::line::Line;
 use book::line_number::LineNumber;
+use book::line_row::LineRow;
 use book::mark::{Counts, Mark};
+use book::mark_row::MarkRow;
 use book::new_entry::NewEntry;
 use book::places::FreePlaces;
 use book::sought::Sought;
+use book::tables::Tables;
 use layout::pair::Pair;
-
-mod tables;
+use ordered::arrivals::Arrivals;
 
 #[derive(Drop)]
 pub struct SmallBook {
-    tables: Tables,
-    ghost fine: { FineTables tables },
+    tables: Tables<Arrivals<EntryRow, 64>, Arrivals<LineRow, 512>, Arrivals<MarkRow, 16>>,
 }
 
 impl SmallBook {
@@ -31,11 +32,16 @@ impl SmallBook {
         ensures { small_means result.tables ≡ empty_book 64 512 16 }
     {
         SmallBook {
-            tables: Tables::new(),
+            tables: Tables {
+                entries: Arrivals::new(),
+                lines: Arrivals::new(),
+                marks: Arrivals::new(),
+            },
         }
     }
 }
 
+// Hands each call on to the tables: a `new` of its own needs a type of its own, and that an impl of its own.
 impl Book for SmallBook {
     ghost meaning = { λ b. small_means b.tables };
 
@@ -85,6 +91,6 @@ impl Book for SmallBook {
     }
 
     fn stands(&self) {
-        self.tables.stand();
+        self.tables.stands();
     }
 }
