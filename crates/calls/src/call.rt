@@ -2,14 +2,14 @@
 use layout::pair::Pair;
 
 // A file handed over for a day, with a packet buffer of so many bytes.
-#[derive(Clone, Copy)]
+#[derive(Clone, Copy, PartialEq, Eq, Debug)]
 pub struct Handed<'a> {
     pub file: &'a [u8],
     pub day: u32,
     pub room: usize,
 }
 
-#[derive(Clone, Copy)]
+#[derive(Clone, Copy, PartialEq, Eq, Debug)]
 pub enum Call<'a> {
     // Judges each transaction of the file alone, and changes nothing.
     Check(Handed<'a>),

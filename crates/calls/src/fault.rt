@@ -5,7 +5,7 @@ ghost use Rattle.calls.specs.declared.fault.FileFault.TheVariants.{Opening};
 
 use file::opening::OpeningFault;
 
-#[derive(Clone, Copy)]
+#[derive(Clone, Copy, PartialEq, Eq, Debug)]
 pub enum FileFault {
     // Its first records are not those of a bulk file.
     Opening(OpeningFault),
@@ -18,6 +18,7 @@ pub enum FileFault {
 }
 
 impl FileFault {
+    // Not by numbers at the variants: one carries an opening's fault, which has its own.
     pub fn code(self) -> u16
         ensures { result ≡ file_code self }
     {

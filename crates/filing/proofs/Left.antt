@@ -17,9 +17,6 @@ pub record Left (out : Bytes) (n a : ℕ) (vs : List Verdict) (whole : Bytes) (a
 pub left_first : (out : Bytes) (vs : List Verdict) → packet_length (length vs) ≤ length out → Left out 0 0 vs (written out 20 (verdict_items 1 vs)) (accepted_count vs)
 left_first out vs h = record { packet = refl; accepted = omega arith; few = omega arith; room = omega arith }
 
-pub left_room : (out : Bytes) (n a : ℕ) (vs more : List Verdict) (v : Verdict) (whole : Bytes) (all : ℕ) → Left out n a vs whole all → vs ≡ v ∷ more → 20 + 16 * n + 16 ≤ length out
-left_room out n a vs more v whole all l is = let r = l.room in let k = ap length is in omega arith
-
 few_more : (a a' n n' : ℕ) (b : Bool) → a ≤ n → n' ≡ suc n → a' ≡ a + cond b 1 0 → a' ≤ n'
 few_more a a' n n' true f en ea = omega arith
 few_more a a' n n' false f en ea = omega arith

@@ -30,14 +30,21 @@ fn check_room(room: usize, transactions: usize) -> Result<(), FileFault>
     }
 }
 
+// A file that opens, and for whose verdicts there is room.
+fn admit_opened(handed: &Handed<'_>, opening: Opening) -> Result<Admitted, FileFault>
+    ensures { let found = found_in handed.now.file.now in result ≡ (if nat_lt handed.now.room (packet_length found.transactions) then Err FileFault.NoRoom else Ok (record { opening = opening; found = found })) }
+{
+    let found = Found::of(handed.file);
+    check_room(handed.room, found.transactions)?;
+    Ok(Admitted { opening, found })
+}
+
 // Codes 1 to 5, and 7.
 pub(crate) fn admit_check(handed: &Handed<'_>) -> Result<Admitted, FileFault>
     ensures { with_code result ≡ admitted_by (check_gate (handed_over handed.now)) (found_in handed.now.file.now) }
 {
     let opening = Opening::of(handed.file)?;
-    let found = Found::of(handed.file);
-    check_room(handed.room, found.transactions)?;
-    Ok(Admitted { opening, found })
+    admit_opened(handed, opening)
 }
 
 // Codes 1 to 8.
@@ -48,10 +55,9 @@ pub(crate) fn admit_post<B: Book>(book: &B, handed: &Handed<'_>) -> Result<Admit
     if book.mark(&opening.id).is_some() {
         return Err(FileFault::Marked);
     }
-    let found = Found::of(handed.file);
-    check_room(handed.room, found.transactions)?;
+    let admitted = admit_opened(handed, opening)?;
     if book.free().marks == 0 {
         return Err(FileFault::NoMarkPlace);
     }
-    Ok(Admitted { opening, found })
+    Ok(admitted)
 }

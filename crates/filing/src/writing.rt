@@ -3,7 +3,7 @@ ghost use Rattle.std.specs.Prelude.{◌≡◌, suc, ◌+◌, ◌*◌, ◌≤◌,
 ghost use Rattle.packet.specs.Written.{written};
 ghost use Rattle.promises.specs.Packets.{verdict_item, file_item, is_accepted};
 
-use packet::{file_item, put, verdict_item};
+use packet::{put, verdict_item};
 use transaction::verdict::Verdict;
 
 // How many verdicts are written, and how many of them are of accepted transactions.
@@ -11,16 +11,6 @@ use transaction::verdict::Verdict;
 pub(crate) struct Progress {
     pub(crate) verdicts: usize,
     pub(crate) accepted: usize,
-}
-
-fn one_if_accepted(verdict: Verdict) -> usize
-    ensures value { result ≡ (if is_accepted verdict then 1 else 0) }
-    ensures small { result ≤ 1 }
-{
-    match verdict {
-        Verdict::Accepted => 1,
-        Verdict::Refused(_, _, _) => 0,
-    }
 }
 
 impl Progress {
@@ -34,7 +24,7 @@ impl Progress {
     {
         let at = 20 + 16 * self.verdicts;
         self.verdicts += 1;
-        self.accepted += one_if_accepted(verdict);
+        self.accepted += usize::from(verdict == Verdict::Accepted);
         let _ = put(packet, at, &verdict_item(self.verdicts, verdict));
     }
 }

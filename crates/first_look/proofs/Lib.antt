@@ -1,1 +1,2 @@
+mod Codes
 mod Numbers

@@ -1,5 +1,5 @@
 -- What first look answers: post's answer on a new small book.
-use Rattle.std.specs.Prelude.{ℕ, length, Ok, Err}
+use Rattle.std.specs.Prelude.{ℕ, ◌<◌, ◌≤◌, length, Ok, Err}
 use Rattle.octets.specs.Classes.{Bytes}
 use Rattle.register.specs.Fives.{held}
 use Rattle.register.specs.Keys.{is_in, listed}
@@ -33,3 +33,8 @@ look_answer t x = post_answer (texts_hold t) new_small_book x
 abbrev pub number_of : Answer → ℕ
 number_of (Ok p) = length p
 number_of (Err code) = code
+
+-- which of the two a number is: a packet has 20 bytes or more, and a file code is below 20
+abbrev pub Told : Answer → Type 0
+Told (Ok p) = 20 ≤ length p
+Told (Err code) = code < 20

@@ -4,7 +4,7 @@
 ghost use Rattle.std.specs.Prelude.{◌≡◌, length};
 ghost use Rattle.filing.specs.Filed.{packet_in};
 ghost use Rattle.promises.specs.Replaced.{handed};
-ghost use Rattle.first_look.specs.Looks.{texts, look_answer, number_of};
+ghost use Rattle.first_look.specs.Looks.{Told, texts, look_answer, number_of};
 
 // Each input is a pointer and its length, and so is the packet's buffer.
 #[unsafe(no_mangle)]
@@ -19,6 +19,7 @@ pub extern "C" fn first_look(
     packet: &mut [u8],
 ) -> u64
     ensures answer { result ≡ number_of (look_answer (texts alc.now office.now symbol.now unit.now map.now) (handed file.now day (length packet.old))) }
+    ensures told { Told (look_answer (texts alc.now office.now symbol.now unit.now map.now) (handed file.now day (length packet.old))) }
     ensures packet { packet.new ≡ packet_in packet.old (look_answer (texts alc.now office.now symbol.now unit.now map.now) (handed file.now day (length packet.old))) }
 {
     first_look::first_look(file, alc, office, symbol, unit, map, day, packet)

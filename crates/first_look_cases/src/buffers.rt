@@ -1,6 +1,5 @@
 // A file of one transaction, and packet buffers that just suffice, do not, or are longer.
 use first_look::first_look;
-use octets::class::is_same;
 
 // Its Set ID is unknown.
 const FILE: &[u8] =
@@ -18,15 +17,15 @@ fn look(packet: &mut [u8]) -> u64 {
 fn just_long_enough(rt: HostRuntime) {
     let mut packet = [0xAA; 36];
     assert_eq!(rt; look(&mut packet), 36);
-    assert!(rt; is_same(&packet[0..20], FILE_ITEM));
-    assert!(rt; is_same(&packet[20..36], VERDICT_ITEM));
+    assert_eq!(rt; &packet[0..20], FILE_ITEM);
+    assert_eq!(rt; &packet[20..36], VERDICT_ITEM);
 }
 
 #[test]
 fn one_byte_short(rt: HostRuntime) {
     let mut packet = [0xAA; 35];
     assert_eq!(rt; look(&mut packet), 7);
-    assert!(rt; is_same(&packet, &[0xAA; 35]));
+    assert_eq!(rt; packet, [0xAA; 35]);
 }
 
 #[test]
@@ -39,7 +38,7 @@ fn no_byte(rt: HostRuntime) {
 fn bytes_behind_stay(rt: HostRuntime) {
     let mut packet = [0xAA; 40];
     assert_eq!(rt; look(&mut packet), 36);
-    assert!(rt; is_same(&packet[0..20], FILE_ITEM));
-    assert!(rt; is_same(&packet[20..36], VERDICT_ITEM));
-    assert!(rt; is_same(&packet[36..40], &[0xAA; 4]));
+    assert_eq!(rt; &packet[0..20], FILE_ITEM);
+    assert_eq!(rt; &packet[20..36], VERDICT_ITEM);
+    assert_eq!(rt; &packet[36..40], [0xAA; 4].as_slice());
 }

@@ -1,6 +1,5 @@
 // A payment's header alone. With good registers only its details are wanting: 41.
 use first_look::first_look;
-use octets::class::is_same;
 
 const FILE: &[u8] =
     b"PCA    \nBIPAC000000030000123420260105001\nH00001234000000000001000000567801234820REF00001  \n";
@@ -14,7 +13,7 @@ fn gets(agencies: &[u8], offices: &[u8], code: u8, column: u8) -> bool {
     let mut packet = [0; 36];
     let length = first_look(FILE, agencies, offices, b"", b"", b"", 0, &mut packet);
     let item = [14, 0, 2, 0, 1, 0, 0, 0, code, 0, 0, 0, 0, 0, column, 0];
-    length == 36 && is_same(&packet[20..36], &item)
+    length == 36 && &packet[20..36] == item.as_slice()
 }
 
 #[test]

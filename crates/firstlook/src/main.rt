@@ -15,14 +15,12 @@ fn read_start(rt: &HostRuntime, name: &str) -> io::Result<Vec<u8>> {
     Ok(bytes)
 }
 
+// Where the file cannot be read, saying so can fail too: so by `or_else`.
 fn read(rt: &HostRuntime, name: &str) -> anyhow::Result<Vec<u8>> {
-    match read_start(rt, name) {
-        Ok(bytes) => Ok(bytes),
-        Err(reason) => {
-            eprintln!(rt; "firstlook: {name}: {reason}")?;
-            Err(reason.into())
-        }
-    }
+    read_start(rt, name).or_else(|reason| -> anyhow::Result<Vec<u8>> {
+        eprintln!(rt; "firstlook: {name}: {reason}")?;
+        Err(reason.into())
+    })
 }
 
 fn run(rt: &HostRuntime) -> anyhow::Result<()> {

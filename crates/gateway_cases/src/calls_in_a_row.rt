@@ -1,9 +1,9 @@
 // One file checked, posted and posted again, and the questions around it; the registers have no key.
+use book::mark::Counts;
 use calls::answer::Answer;
 use calls::call::{Call, Handed};
 use gateway::run::run;
 use layout::pair::Pair;
-use octets::class::is_same;
 use register::bit_map::BitMap;
 use register::five::Five;
 use register::key_list::KeyList;
@@ -27,25 +27,15 @@ fn handed(file: &[u8], room: usize) -> Handed<'_> {
 }
 
 fn is_packet(answer: &Answer) -> bool {
-    match answer {
-        Answer::Packet(bytes) => is_same(bytes.as_slice(), PACKET),
-        _ => false,
-    }
+    matches!(answer, Answer::Packet(bytes) if bytes.as_slice() == PACKET)
 }
 
-// The file code, or 0 where the file is not refused.
-fn file_code(answer: &Answer) -> u16 {
-    match answer {
-        Answer::Refused(fault) => fault.code(),
-        _ => 0,
-    }
+fn has_code(answer: &Answer, code: u16) -> bool {
+    matches!(answer, Answer::Refused(fault) if fault.code() == code)
 }
 
 fn is_count(answer: &Answer, accepted: u64, rejected: u64) -> bool {
-    match answer {
-        Answer::Counted(counts) => counts.accepted == accepted && counts.rejected == rejected,
-        _ => false,
-    }
+    *answer == Answer::Counted(Counts { accepted, rejected })
 }
 
 #[test]
@@ -75,12 +65,12 @@ fn each_is_answered(rt: HostRuntime) -> Result<(), Fail> {
     assert_eq!(rt; answers.len(), 9);
     assert!(rt; is_count(&answers[0], 0, 0));
     assert!(rt; is_packet(&answers[1]));
-    assert_eq!(rt; file_code(&answers[2]), 7);
+    assert!(rt; has_code(&answers[2], 7));
     assert!(rt; is_packet(&answers[3]));
-    assert_eq!(rt; file_code(&answers[4]), 6);
-    assert_eq!(rt; file_code(&answers[5]), 2);
+    assert!(rt; has_code(&answers[4], 6));
+    assert!(rt; has_code(&answers[5], 2));
     assert!(rt; is_count(&answers[6], 0, 1));
-    assert!(rt; matches!(&answers[7], Answer::Shown(None)));
-    assert!(rt; matches!(&answers[8], Answer::Sought(None)));
+    assert!(rt; answers[7] == Answer::Shown(None));
+    assert!(rt; answers[8] == Answer::Sought(None));
     Ok(())
 }

@@ -1,6 +1,8 @@
 -- What the program firstlook writes: a packet, or the item of a file code.
-use Rattle.std.specs.Prelude.{ℕ, cond, take, Ok, Err, nat_le}
+use Rattle.std.specs.Prelude.{ℕ, take, Ok, Err, Result}
 use Rattle.octets.specs.Classes.{Bytes}
+use Rattle.calls.specs.Codes.{file_code}
+use Rattle.calls.specs.declared.fault.FileFault.{FileFault}
 use Rattle.packet.specs.Written.{refusal_length, refusal_in}
 use Rattle.promises.specs.Calls.{Answer}
 use Rattle.promises.specs.Packets.{code_item}
@@ -25,6 +27,7 @@ output_of (Err code) = code_item code
 abbrev pub output_for : Files → Bytes
 output_for f = output_of (look_answer (registers_in f) (handed (first_bytes f.bulk.now) 0 65536))
 
--- from the number that first look answered, and its buffer: a number below 20 is a file code
-abbrev pub output_in : ℕ → Bytes → Bytes
-output_in number buffer = cond (nat_le 20 number) (take number buffer) (take (refusal_length buffer) (refusal_in buffer number))
+-- from what first look answered, and its buffer
+abbrev pub output_in : Result ℕ FileFault → Bytes → Bytes
+output_in (Ok length) buffer = take length buffer
+output_in (Err fault) buffer = take (refusal_length buffer) (refusal_in buffer (file_code fault))

@@ -8,6 +8,7 @@ ghost use Rattle.packet.specs.Written.{written, written_if, refusal_length, refu
 use transaction::verdict::Verdict;
 
 // Kind 1: records stated and found, transactions, accepted.
+// Lists its bytes: each stands once, in its place, and four slices copied into an array of zeros would say no more.
 pub fn file_item(stated: u32, found: usize, transactions: usize, accepted: usize) -> [u8; 20]
     ensures { result ≡ file_item stated found transactions accepted }
 {
@@ -60,6 +61,7 @@ fn put_within(buffer: &mut [u8], at: usize, bytes: &[u8])
 }
 
 // Writes the bytes from place `at` on, and leaves all others. It answers whether there was room; where there was not, it writes nothing.
+// Answers a bool: whoever asks goes on either way, and passes no refusal on.
 pub fn put(buffer: &mut [u8], at: usize, bytes: &[u8]) -> bool
     ensures room { result ≡ nat_le (at + length bytes.now) (length buffer.old) }
     ensures after { buffer.new ≡ written_if buffer.old at bytes.now }
@@ -83,36 +85,28 @@ pub fn refusal(buffer: &mut [u8], code: u16) -> usize
 #[cfg(test)]
 mod tests {
     use super::*;
-    use octets::class::is_same;
 
     // A file with one transaction whose Set ID is unknown: 36 bytes, and what is behind them stays.
     #[test]
     fn smallest_packet(rt: HostRuntime) {
         let mut buffer = [0xAA; 38];
         assert!(rt; put(&mut buffer, 0, &file_item(4, 3, 1, 0)));
-        assert!(rt;
-            put(
-                &mut buffer,
-                20,
-                &verdict_item(1, Verdict::Refused(30, 0, 37)),
-            )
-        );
-        let first = [
-            0x12, 0, 1, 0, 4, 0, 0, 0, 3, 0, 0, 0, 1, 0, 0, 0, 0, 0, 0, 0,
+        let item = verdict_item(1, Verdict::Refused(30, 0, 37));
+        assert!(rt; put(&mut buffer, 20, &item));
+        let packet = [
+            0x12, 0, 1, 0, 4, 0, 0, 0, 3, 0, 0, 0, 1, 0, 0, 0, 0, 0, 0, 0, 0x0E, 0, 2, 0, 1, 0, 0,
+            0, 0x1E, 0, 0, 0, 0, 0, 0x25, 0, 0xAA, 0xAA,
         ];
-        let second = [0x0E, 0, 2, 0, 1, 0, 0, 0, 0x1E, 0, 0, 0, 0, 0, 0x25, 0];
-        assert!(rt; is_same(&buffer[0..20], &first));
-        assert!(rt; is_same(&buffer[20..36], &second));
-        assert!(rt; is_same(&buffer[36..38], &[0xAA, 0xAA]));
+        assert_eq!(rt; buffer, packet);
     }
 
     #[test]
     fn refusal_needs_six_bytes(rt: HostRuntime) {
         let mut short = [0xAA; 5];
         assert_eq!(rt; refusal(&mut short, 7), 0);
-        assert!(rt; is_same(&short, &[0xAA; 5]));
+        assert_eq!(rt; short, [0xAA; 5]);
         let mut long = [0xAA; 7];
         assert_eq!(rt; refusal(&mut long, 7), 6);
-        assert!(rt; is_same(&long, &[4, 0, 3, 0, 7, 0, 0xAA]));
+        assert_eq!(rt; long, [4, 0, 3, 0, 7, 0, 0xAA]);
     }
 }

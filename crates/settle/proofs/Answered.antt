@@ -14,7 +14,7 @@ use Rattle.book.specs.Meaning.{EntryHeld, LineHeld, line_told}
 use Rattle.book.specs.Told.{told, entry_told}
 use Rattle.transaction.specs.declared.header.Transaction.{Transaction}
 use Rattle.transaction.specs.declared.verdict.Verdict.{Verdict}
-use Rattle.transaction.specs.declared.verdict.Verdict.TheVariants.{Accepted, Refused}
+use Rattle.transaction.specs.declared.verdict.Verdict.TheVariants.{Accepted}
 use Rattle.transaction.specs.Details.{DetailRead, item_in}
 use Rattle.transaction.specs.Headers.{set_id_of, total_of}
 use Rattle.transaction.specs.Verdicts.{Check, check, verdict}
@@ -73,10 +73,6 @@ module _ (set : SetId) (d : DetailRead) where
   line_held l None e = absurd (some_not l (sym e))
   line_held l (Some m) e = let k : l ≡ line_told m = cc in ap (λ x. verdict (line_checks set d (line_as x))) k ∙ ap verdict (sym (line_same set d m))
 
-  pub line_absent : (x : Option LineHeld) → None ≡ option_map line_told x → Refused 63 d.number (item_column set) ≡ verdict (checks x)
-  line_absent None e = refl
-  line_absent (Some m) e = absurd (some_not (line_told m) e)
-
 -- one detail more
 module _ (f : DetailRead → List Check) (d : DetailRead) (all rest : List DetailRead) (v : Verdict) (inv : verdict (flat_map f all) ≡ v) (is : all ≡ d ∷ rest) where
   pub turn_on : Accepted ≡ verdict (f d) → verdict (flat_map f rest) ≡ v
@@ -88,7 +84,7 @@ module _ (f : DetailRead → List Check) (d : DetailRead) (all rest : List Detai
 -- the original in the order of its checks; o is what is answered of it
 module _ (day : ℕ) (t : Transaction) (ds : List DetailRead) (h : Held) (o : Option Entry) (is : option_map told o ≡ option_map entry_told h.entry) (set : SetId) (total : ℕ) (s : set ≡ set_id_of t) (sum : total ≡ total_of t) where
   abbrev in_order : SetId → ℕ → Option EntryHeld → List Check
-  in_order set total x = serving_check set x ++ (age_check day set x ++ (flat_map (detail_checks set h) ds ++ open_check total set x))
+  in_order set total x = serving_check set x ++ (age_check day set x ++ (flat_map (detail_checks (set_id_of t) h) ds ++ open_check total set x))
 
   by_told : (x : Option EntryHeld) → verdict (in_order (set_id_of t) (total_of t) (option_map held_as (option_map entry_told x))) ≡ verdict (check (serves (set_id_of t) x) 61 0 (original_column (set_id_of t)) ∷ entry_checks day t ds h x)
   by_told None = refl
@@ -101,15 +97,18 @@ module _ (day : ℕ) (t : Transaction) (ds : List DetailRead) (h : Held) (o : Op
       ∙ ap (λ x. verdict (in_order (set_id_of t) (total_of t) (option_map held_as x))) is
       ∙ by_told h.entry
 
+  abbrev lines : List Check
+  lines = flat_map (detail_checks (set_id_of t) h) ds
+
   module _ (serving : Accepted ≡ verdict (serving_check set (answered o))) (age : Accepted ≡ verdict (age_check day set (answered o))) where
-    behind : (v : Verdict) → v ≡ verdict (flat_map (detail_checks set h) ds ++ open_check total set (answered o)) → v ≡ verdict (original_checks day t ds h)
+    behind : (v : Verdict) → v ≡ verdict (lines ++ open_check total set (answered o)) → v ≡ verdict (original_checks day t ds h)
     behind v k =
-        goes_on (serving_check set (answered o)) (age_check day set (answered o) ++ (flat_map (detail_checks set h) ds ++ open_check total set (answered o))) v serving
-        (goes_on (age_check day set (answered o)) (flat_map (detail_checks set h) ds ++ open_check total set (answered o)) v age k)
+        goes_on (serving_check set (answered o)) (age_check day set (answered o) ++ (lines ++ open_check total set (answered o))) v serving
+        (goes_on (age_check day set (answered o)) (lines ++ open_check total set (answered o)) v age k)
         ∙ original_is
 
-    pub lines_stop : (f : SettleFault) → fault_verdict f ≡ verdict (flat_map (detail_checks set h) ds) → fault_verdict f ≡ verdict (original_checks day t ds h)
-    lines_stop f k = behind (fault_verdict f) (stops (flat_map (detail_checks set h) ds) (open_check total set (answered o)) f k)
+    pub lines_stop : (f : SettleFault) → fault_verdict f ≡ verdict lines → fault_verdict f ≡ verdict (original_checks day t ds h)
+    lines_stop f k = behind (fault_verdict f) (stops lines (open_check total set (answered o)) f k)
 
-    pub lines_pass : (v : Verdict) → Accepted ≡ verdict (flat_map (detail_checks set h) ds) → v ≡ verdict (open_check total set (answered o)) → v ≡ verdict (original_checks day t ds h)
-    lines_pass v a k = behind v (goes_on (flat_map (detail_checks set h) ds) (open_check total set (answered o)) v a k)
+    pub lines_pass : (v : Verdict) → Accepted ≡ verdict lines → v ≡ verdict (open_check total set (answered o)) → v ≡ verdict (original_checks day t ds h)
+    lines_pass v a k = behind v (goes_on lines (open_check total set (answered o)) v a k)

@@ -1,5 +1,5 @@
 -- What an accepted transaction finds, and what its actions leave.
-use Rattle.std.proofs.Common.{◌≡◌, ℕ, suc, ◌<◌, ◌≤◌, Bool, true, false, cond, not, ◌&&◌, eqb, List, [], ◌∷◌, length, is_some, Some, None, Ok, Err, Option, sym, refl, ap, ◌∙◌, subst, arith}
+use Rattle.std.proofs.Common.{◌≡◌, ℕ, suc, ◌+◌, ◌<◌, ◌≤◌, Bool, true, false, cond, not, ◌&&◌, eqb, List, [], ◌∷◌, length, is_some, Some, None, Ok, Err, Option, add-one, sym, refl, ap, ◌∙◌, subst, arith}
 use Rattle.std.proofs.lemmas.Bool.{and_parts, and_right, eqb-true, eq-eqb, ne_eqb, le-leb, true≢false}
 use Rattle.octets.specs.Classes.{Bytes}
 use Rattle.octets.proofs.Columns.{columns_length}
@@ -10,13 +10,13 @@ use Rattle.file.specs.Records.{records}
 use Rattle.ordered.specs.Order.{every}
 use Rattle.book.specs.declared.fault.BookFault.TheVariants.{Full, AboveOpen}
 use Rattle.book.specs.Actions.{enter, enter_line, entering, entering_line, admits, take_open, take_answer_at, unless_refused}
-use Rattle.book.specs.Meaning.{BookMeaning, EntryHeld, LineHeld, same_pair, entry_at, line_at, line_first, fresh, free_lines, free_entries}
+use Rattle.book.specs.Meaning.{BookMeaning, EntryHeld, LineHeld, same_pair, entry_at, line_at, line_first, fresh, line_under, free_lines, free_entries}
 use Rattle.transaction.specs.declared.header.Transaction.{Transaction}
 use Rattle.transaction.specs.declared.verdict.Verdict.TheVariants.{Accepted}
 use Rattle.transaction.specs.Details.{DetailRead, details_of, sender_in, receiver_in}
 use Rattle.transaction.specs.Headers.{set_id_of, total_of, own_pair}
 use Rattle.transaction.specs.Verdicts.{verdict}
-use Rattle.promises.specs.Entering.{entry_of, enter_lines, enter_own, take_at, taken_from}
+use Rattle.promises.specs.Entering.{entry_of, line_of, enter_lines, enter_own, take_at, taken_from}
 use Rattle.promises.specs.Judging.{book_checks}
 use Rattle.promises.specs.Own.{lines_under, lines_of, no_lines}
 use Rattle.promises.proofs.Effect.{own_is, put_own, entry_placed, line_placed}
@@ -75,22 +75,6 @@ module _ (b : BookMeaning) (p : Pair) (set : SetId) (n : ℕ) (d : DetailRead) (
   halves : (has_symbols set d ≡ true) × (every (has_symbols set) ds ≡ true)
   halves = and_parts (has_symbols set d) (every (has_symbols set) ds) ready.symbols
 
-  lengths : (eqb (length (sender_in set d.detail)) 27 ≡ true) × (eqb (length (receiver_in set d.detail)) 27 ≡ true)
-  lengths = and_parts (eqb (length (sender_in set d.detail)) 27) (eqb (length (receiver_in set d.detail)) 27) halves.0
-
-  pub sender_long : length (sender_in set d.detail) ≡ 27
-  sender_long = eqb-true (length (sender_in set d.detail)) 27 lengths.0
-
-  pub receiver_long : length (receiver_in set d.detail) ≡ 27
-  receiver_long = eqb-true (length (receiver_in set d.detail)) 27 lengths.1
-
-  pub only_first : Ready b p set n (d ∷ [])
-  only_first =
-      let l = ready.last in let r = ready.room in
-      let a : not (is_some (line_at b p n)) ≡ true = ap (λ x. not (is_some x)) parts.0 in
-      let s = halves.0 in
-      record { first = ready.first; last = omega arith; vacant = simp a; room = omega arith; symbols = simp s }
-
   pub line_admitted : (l : LineHeld) → l.pair ≡ p → l.number ≡ n → entering_line b l ≡ enter_line l b
   line_admitted l e m =
       let h : line_at b l.pair l.number ≡ None = ap (λ q. line_at b q l.number) e ∙ ap (line_at b p) m ∙ parts.0 in
@@ -114,6 +98,30 @@ module _ (b : BookMeaning) (p : Pair) (set : SetId) (n : ℕ) (d : DetailRead) (
       let e = ready.last in let r = ready.room in
       let u = length_place line_first l b.lines in
       record { first = omega arith; last = omega arith; vacant = still_none l m (suc n) ds (omega arith) ∙ parts.1; room = omega arith; symbols = halves.1 }
+
+-- the details that are left may be entered, the next with number n; entered, they give the whole
+pub record Left (b : BookMeaning) (p : Pair) (set : SetId) (n : ℕ) (ds : List DetailRead) (whole : BookMeaning) : Type 0 where
+  pub ready : Ready b p set n ds
+  pub gives : enter_lines p set n ds b ≡ whole
+
+module _ (b : BookMeaning) (p : Pair) (set : SetId) (n : ℕ) (ds : List DetailRead) (whole : BookMeaning) (left : Left b p set n ds whole) where
+  module _ (d : DetailRead) (rest : List DetailRead) (m : ℕ) (is : ds ≡ d ∷ rest) (next : m ≡ n) where
+    ready_now : Ready b p set m (d ∷ rest)
+    ready_now = subst (λ k. Ready b p set k (d ∷ rest)) (sym next) (subst (Ready b p set n) is left.ready)
+
+    pub left_more : (n' : ℕ) (b' : BookMeaning) → n' ≡ m + 1 → b' ≡ enter_line (line_under p m (line_of set d)) b → Left b' p set n' rest whole
+    left_more n' b' en eb =
+        let one = line_under p m (line_of set d) in
+        let s : n' ≡ suc m = en ∙ add-one m in
+        let r : Ready (enter_line one b) p set (suc m) rest = next_ready b p set m d rest ready_now one refl in
+        record {
+          ready = subst (λ k. Ready b' p set k rest) (sym s) (subst (λ x. Ready x p set (suc m) rest) (sym eb) r);
+          gives = ap (λ k. enter_lines p set k rest b') s
+              ∙ ap (enter_lines p set (suc m) rest) eb
+              ∙ ap (λ k. enter_lines p set k (d ∷ rest) b) next
+              ∙ ap (λ xs. enter_lines p set n xs b) (sym is)
+              ∙ left.gives;
+        }
 
 -- ---- an accepted transaction
 
@@ -157,22 +165,20 @@ lines_fewer ZeroDollar ds = omega arith
 lines_fewer PostSgl ds = omega arith
 
 -- the own entry is entered in c, and the lines in e
-module _ (b : BookMeaning) (day : ℕ) (t : Transaction) (details : ℕ) (body : Bytes) (ok : verdict (book_checks b day t (details_of (records body))) ≡ Accepted) (p : Pair) (own : Some p ≡ own_pair t) (c : BookMeaning) (set : SetId) (is : c ≡ entering b (fresh p (entry_of day t))) (s : set ≡ set_id_of t) where
+module _ (b : BookMeaning) (day : ℕ) (t : Transaction) (details : ℕ) (body : Bytes) (ok : verdict (book_checks b day t (details_of (records body))) ≡ Accepted) (p : Pair) (own : Some p ≡ own_pair t) (c : BookMeaning) (is : c ≡ entering b (fresh p (entry_of day t))) where
   abbrev ds : List DetailRead
   ds = details_of (records body)
 
   c_is : c ≡ enter (fresh p (entry_of day t)) b
   c_is = is ∙ entry_admitted b day t ds ok p (sym own)
 
-  pub own_ready : Relied t details body → Ready c p set 1 (lines_under set ds)
+  pub own_ready : Relied t details body → Ready c p (set_id_of t) 1 (lines_of t ds)
   own_ready r =
       let f = lines_fewer (set_id_of t) ds in let n = r.count in let m = r.few in
-      let k : Ready (enter (fresh p (entry_of day t)) b) p (set_id_of t) 1 (lines_under (set_id_of t) ds) = lines_ready b day t ds ok p (sym own) (omega arith) r.wide in
-      subst (λ x. Ready c p x 1 (lines_under x ds)) (sym s) (subst (λ x. Ready x p (set_id_of t) 1 (lines_under (set_id_of t) ds)) (sym c_is) k)
+      subst (λ x. Ready x p (set_id_of t) 1 (lines_of t ds)) (sym c_is) (lines_ready b day t ds ok p (sym own) (omega arith) r.wide)
 
-  pub own_entered : (e : BookMeaning) → e ≡ enter_lines p set 1 (lines_under set ds) c → e ≡ enter_own day t ds (own_pair t) b
+  pub own_entered : (e : BookMeaning) → e ≡ enter_lines p (set_id_of t) 1 (lines_of t ds) c → e ≡ enter_own day t ds (own_pair t) b
   own_entered e h =
       h
-      ∙ ap (λ x. enter_lines p x 1 (lines_under x ds) c) s
-      ∙ ap (enter_lines p (set_id_of t) 1 (lines_under (set_id_of t) ds)) c_is
+      ∙ ap (enter_lines p (set_id_of t) 1 (lines_of t ds)) c_is
       ∙ ap (λ o. enter_own day t ds o b) own

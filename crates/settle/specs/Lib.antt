@@ -1,5 +1,4 @@
 pub mod Faults
 pub mod Originals
-pub mod Lines
 pub mod Relied
 pub mod Entering

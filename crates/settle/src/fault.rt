@@ -5,7 +5,7 @@ ghost use Rattle.settle.specs.Faults.{fault_verdict, outcome};
 use transaction::verdict::Verdict;
 
 // A record goes by its number after the header.
-#[derive(Clone, Copy)]
+#[derive(Clone, Copy, PartialEq, Eq, Debug)]
 pub enum SettleFault {
     // Nothing is held under the pair of the original, or an adjustment's original is no payment or collection.
     OriginalAbsent { column: usize },

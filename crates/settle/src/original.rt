@@ -1,46 +1,34 @@
-// A transaction against its original: the entry that it names, and for each detail the line that it names.
-ghost use Rattle.std.specs.Prelude.{◌≡◌, not, ◌||◌, [], ◌∷◌, ◌==◌};
+// A candidate against its original: the entry that it names, and for each detail the line that it names.
+ghost use Rattle.std.specs.Prelude.{◌≡◌, [], ◌∷◌, ◌==◌};
 ghost use Rattle.std.specs.List.{flat_map};
-ghost use Rattle.book.specs.Meaning.{adjustable};
 ghost use Rattle.file.specs.Records.{records};
 ghost use Rattle.promises.specs.Against.{adjusts, original_column, item_column, serves, agree, symbol_checks, line_checks, detail_checks, original_checks};
 ghost use Rattle.promises.specs.Held.{at};
 ghost use Rattle.transaction.specs.Details.{read_as, details_of, item_in, sender_in, receiver_in};
+ghost use Rattle.transaction.specs.Headers.{set_id_of};
 ghost use Rattle.transaction.specs.Verdicts.{check, verdict};
 ghost use Rattle.settle.specs.Faults.{outcome};
 ghost use Rattle.settle.specs.Originals.{line_as, answered, serving_check, age_check, open_check};
 
+use crate::candidate::Candidate;
 use crate::fault::SettleFault;
 use book::entry::Entry;
+use book::entry_row::is_adjustable;
 use book::line::Line;
 use book::{Book, line_of};
 use layout::pair::Pair;
 use layout::set_id::SetId;
-use octets::class::{is_blank, is_same};
+use octets::class::is_blank;
 use transaction::details::{Detail, Details};
-use transaction::header::Transaction;
 
 // 812 and 829: they take from their original.
 pub(crate) fn adjusts(set: SetId) -> bool
     ensures { result ≡ adjusts set }
 {
-    match set {
-        SetId::ReceiverAdjustment | SetId::SenderAdjustment => true,
-        _ => false,
-    }
+    matches!(set, SetId::ReceiverAdjustment | SetId::SenderAdjustment)
 }
 
-// 820 and 810: what an adjustment may take from.
-fn is_adjustable(set: SetId) -> bool
-    ensures { result ≡ adjustable set }
-{
-    match set {
-        SetId::Payment | SetId::Collection => true,
-        _ => false,
-    }
-}
-
-// The column of the original's office.
+// The column of the original's office; 1, not None, where no check asks for it, as the definition says.
 fn original_column(set: SetId) -> usize
     ensures { result ≡ original_column set }
 {
@@ -51,7 +39,7 @@ fn original_column(set: SetId) -> usize
     }
 }
 
-// The column of the original's line number.
+// The column of the original's line number; 1, not None, where no check asks for it, as the definition says.
 fn item_column(set: SetId) -> usize
     ensures { result ≡ item_column set }
 {
@@ -62,13 +50,11 @@ fn item_column(set: SetId) -> usize
     }
 }
 
+// Set ID and original stand by themselves here and below: a struct of the two would be made for four calls in a row.
 fn serves(set: SetId, original: Option<Entry>) -> bool
     ensures { result ≡ serves set (answered original) }
 {
-    match original {
-        Some(entry) => !adjusts(set) || is_adjustable(entry.set_id),
-        None => false,
-    }
+    original.is_some_and(|entry| !adjusts(set) || is_adjustable(entry.set_id))
 }
 
 fn check_serving(set: SetId, original: Option<Entry>) -> Result<(), SettleFault>
@@ -86,10 +72,8 @@ fn check_serving(set: SetId, original: Option<Entry>) -> Result<(), SettleFault>
 fn check_age(day: u32, set: SetId, original: Option<Entry>) -> Result<(), SettleFault>
     ensures { outcome result ≡ verdict (age_check day set (answered original)) }
 {
-    let Some(entry) = original else {
-        return Ok(());
-    };
-    if adjusts(set) && u64::from(day) > u64::from(entry.day) + 90 {
+    let is_late = |entry: Entry| u64::from(day) > u64::from(entry.day) + 90;
+    if adjusts(set) && original.is_some_and(is_late) {
         return Err(SettleFault::TooLate {
             column: original_column(set),
         });
@@ -100,10 +84,7 @@ fn check_age(day: u32, set: SetId, original: Option<Entry>) -> Result<(), Settle
 fn check_open(total: u64, set: SetId, original: Option<Entry>) -> Result<(), SettleFault>
     ensures { outcome result ≡ verdict (open_check total set (answered original)) }
 {
-    let Some(entry) = original else {
-        return Ok(());
-    };
-    if adjusts(set) && total > entry.open_amount {
+    if adjusts(set) && original.is_some_and(|entry| total > entry.open_amount) {
         return Err(SettleFault::AboveOpen);
     }
     Ok(())
@@ -113,7 +94,7 @@ fn check_open(total: u64, set: SetId, original: Option<Entry>) -> Result<(), Set
 fn agree(a: &[u8], b: &[u8]) -> bool
     ensures { result ≡ agree a.now b.now }
 {
-    is_blank(a) || is_blank(b) || is_same(a, b)
+    is_blank(a) || is_blank(b) || a == b
 }
 
 // A symbol of the detail, which stands in this column, against one of the line.
@@ -136,6 +117,7 @@ fn check_amount(number: usize, debits: u128, amount: u64) -> Result<(), SettleFa
 }
 
 // The symbols of a detail against those that the line has in their place.
+// The Set ID stands beside the detail from here on, as at Detail's own methods: the detail does not know it.
 fn check_symbols(
     set: SetId,
     detail: &Detail<'_>,
@@ -167,48 +149,51 @@ fn item_of(set: SetId, detail: &Detail<'_>) -> u32
     detail.item(set) as u32
 }
 
-// A detail: the line that it names is there, and agrees.
-fn check_detail<B: Book>(
-    book: &B,
-    pair: &Pair,
-    set: SetId,
-    detail: &Detail<'_>,
-) -> Result<(), SettleFault>
-    ensures { outcome result ≡ verdict (detail_checks set (at (B.Book.meaning book.now) pair.now) (read_as detail.now.number detail.now.«record».now detail.now.entries)) }
-{
-    match line_of(book, pair, item_of(set, detail)) {
-        Some(line) => check_line(set, detail, &line),
-        None => Err(SettleFault::NoLine {
-            number: detail.number,
-            column: item_column(set),
-        }),
+// Book and pair stand by themselves in these methods: the book is lent to be read here, and to be changed where lines are entered.
+impl Candidate<'_> {
+    // A detail: the line that it names is there, and agrees.
+    fn check_detail<B: Book>(
+        &self,
+        book: &B,
+        pair: &Pair,
+        detail: &Detail<'_>,
+    ) -> Result<(), SettleFault>
+        ensures { outcome result ≡ verdict (detail_checks (set_id_of self.now.sound.transaction) (at (B.Book.meaning book.now) pair.now) (read_as detail.now.number detail.now.«record».now detail.now.entries)) }
+    {
+        let set = self.set();
+        match line_of(book, pair, item_of(set, detail)) {
+            Some(line) => check_line(set, detail, &line),
+            None => Err(SettleFault::NoLine {
+                number: detail.number,
+                column: item_column(set),
+            }),
+        }
     }
-}
 
-// The first fault of the details.
-fn check_lines<B: Book>(book: &B, pair: &Pair, set: SetId, body: &[u8]) -> Result<(), SettleFault>
-    ensures { outcome result ≡ verdict (flat_map (detail_checks set (at (B.Book.meaning book.now) pair.now)) (details_of (records body.now))) }
-{
-    for detail in Details::of(body) {
-        check_detail(book, pair, set, &detail)?;
+    // The first fault of the details.
+    fn check_lines<B: Book>(&self, book: &B, pair: &Pair) -> Result<(), SettleFault>
+        ensures { outcome result ≡ verdict (flat_map (detail_checks (set_id_of self.now.sound.transaction) (at (B.Book.meaning book.now) pair.now)) (details_of (records self.now.sound.body.now))) }
+    {
+        for detail in Details::of(self.sound.body) {
+            self.check_detail(book, pair, &detail)?;
+        }
+        Ok(())
     }
-    Ok(())
-}
 
-// The original that stands under this pair, or does not: its kind, its age, the lines, the open amount.
-pub(crate) fn check_original<B: Book>(
-    book: &B,
-    pair: &Pair,
-    day: u32,
-    transaction: &Transaction,
-    body: &[u8],
-) -> Result<(), SettleFault>
-    ensures { outcome result ≡ verdict (original_checks day transaction.now (details_of (records body.now)) (at (B.Book.meaning book.now) pair.now)) }
-{
-    let set = transaction.set_id();
-    let original = book.entry(pair);
-    check_serving(set, original)?;
-    check_age(day, set, original)?;
-    check_lines(book, pair, set, body)?;
-    check_open(transaction.total(), set, original)
+    // The original that stands under this pair, or does not: its kind, its age, the lines, the open amount.
+    pub(crate) fn check_original<B: Book>(
+        &self,
+        book: &B,
+        pair: &Pair,
+        day: u32,
+    ) -> Result<(), SettleFault>
+        ensures { let s = self.now.sound in outcome result ≡ verdict (original_checks day s.transaction (details_of (records s.body.now)) (at (B.Book.meaning book.now) pair.now)) }
+    {
+        let set = self.set();
+        let original = book.entry(pair);
+        check_serving(set, original)?;
+        check_age(day, set, original)?;
+        self.check_lines(book, pair)?;
+        check_open(self.sound.transaction.total(), set, original)
+    }
 }

@@ -1,17 +1,20 @@
-// A transaction where it is to be entered: nothing held under its own pair, and places enough.
-ghost use Rattle.std.specs.Prelude.{◌≡◌, ◌≤◌, not, ◌&&◌, [], ◌∷◌, is_some};
+// A candidate where it is to be entered: nothing held under its own pair, and places enough.
+ghost use Rattle.std.specs.Prelude.{◌≡◌, ◌≤◌, [], ◌∷◌, ◌++◌, Some, length, is_some};
 ghost use Rattle.book.specs.Meaning.{entry_at, line_at};
-ghost use Rattle.promises.specs.Own.{own_column, has_places};
+ghost use Rattle.file.specs.Records.{records};
+ghost use Rattle.promises.specs.Held.{at};
+ghost use Rattle.promises.specs.Own.{own_column, has_places, lines_of, no_lines, own_pair_checks, place_checks};
+ghost use Rattle.transaction.specs.Details.{details_of};
 ghost use Rattle.transaction.specs.Verdicts.{check, verdict};
 ghost use Rattle.settle.specs.Faults.{outcome};
-ghost use Rattle.settle.specs.Lines.{line_count, none_of};
 
+use crate::candidate::Candidate;
 use crate::fault::SettleFault;
 use book::{Book, line_of};
 use layout::pair::Pair;
 use layout::set_id::SetId;
 
-// The column of the own reference; 840 has none.
+// The column of the own reference; 840 has none: 1, not None, as the definition says.
 fn own_column(set: SetId) -> usize
     ensures { result ≡ own_column set }
 {
@@ -20,16 +23,6 @@ fn own_column(set: SetId) -> usize
         SetId::ReceiverAdjustment | SetId::SenderAdjustment => 55,
         SetId::ZeroDollar => 26,
         SetId::PostSgl => 1,
-    }
-}
-
-// How many lines become of so many details: none under 835, and 840 enters nothing.
-pub(crate) fn line_count(set: SetId, details: usize) -> usize
-    ensures { result ≡ line_count set details }
-{
-    match set {
-        SetId::ZeroDollar | SetId::PostSgl => 0,
-        _ => details,
     }
 }
 
@@ -45,53 +38,56 @@ fn has_line<B: Book>(book: &B, pair: &Pair, number: u32) -> bool
     line_of(book, pair, number).is_some()
 }
 
-// Whether no line is held with a number from 1 to `count`.
-fn lines_free<B: Book>(book: &B, pair: &Pair, count: usize) -> bool
-    requires { count ≤ 1000 }
-    ensures { result ≡ none_of 1 count (line_at (B.Book.meaning book.now) pair.now) }
-{
-    let mut seen = 0;
-    while seen < count {
-        seen += 1;
-        if has_line(book, pair, seen as u32) {
-            return false;
+impl Candidate<'_> {
+    // How many lines become of it: none under 835, and 840 enters nothing.
+    fn lines(&self) -> usize
+        ensures value { let s = self.now.sound in result ≡ length (lines_of s.transaction (details_of (records s.body.now))) }
+        ensures few { result ≤ 1000 }
+    {
+        match self.set() {
+            SetId::ZeroDollar | SetId::PostSgl => 0,
+            _ => self.sound.details,
         }
     }
-    true
-}
 
-fn check_pair<B: Book>(book: &B, pair: &Pair, set: SetId, lines: usize) -> Result<(), SettleFault>
-    requires { lines ≤ 1000 }
-    ensures { outcome result ≡ verdict (check (not (is_some (entry_at (B.Book.meaning book.now) pair.now)) && none_of 1 lines (line_at (B.Book.meaning book.now) pair.now)) 66 0 (own_column set) ∷ []) }
-{
-    if has_entry(book, pair) || !lines_free(book, pair, lines) {
-        return Err(SettleFault::PairHeld {
-            column: own_column(set),
-        });
+    // Whether no line is held under the pair with a number that one of its lines would have.
+    fn has_no_line<B: Book>(&self, book: &B, pair: &Pair) -> bool
+        ensures { let s = self.now.sound in result ≡ no_lines 1 (lines_of s.transaction (details_of (records s.body.now))) (line_at (B.Book.meaning book.now) pair.now) }
+    {
+        for number in 1..=self.lines() as u32 {
+            if has_line(book, pair, number) {
+                return false;
+            }
+        }
+        true
     }
-    Ok(())
-}
 
-fn check_places<B: Book>(book: &B, lines: usize) -> Result<(), SettleFault>
-    ensures { outcome result ≡ verdict (check (has_places (B.Book.meaning book.now) lines) 67 0 1 ∷ []) }
-{
-    let free = book.free();
-    if free.entries < 1 || free.lines < lines {
-        return Err(SettleFault::NoPlaces);
+    fn check_pair<B: Book>(&self, book: &B, pair: &Pair) -> Result<(), SettleFault>
+        ensures { let s = self.now.sound in outcome result ≡ verdict (own_pair_checks s.transaction (details_of (records s.body.now)) (at (B.Book.meaning book.now) pair.now)) }
+    {
+        if has_entry(book, pair) || !self.has_no_line(book, pair) {
+            return Err(SettleFault::PairHeld {
+                column: own_column(self.set()),
+            });
+        }
+        Ok(())
     }
-    Ok(())
-}
 
-// The pair, then the places.
-pub(crate) fn check_entering<B: Book>(
-    book: &B,
-    pair: &Pair,
-    set: SetId,
-    lines: usize,
-) -> Result<(), SettleFault>
-    requires { lines ≤ 1000 }
-    ensures { outcome result ≡ verdict (check (not (is_some (entry_at (B.Book.meaning book.now) pair.now)) && none_of 1 lines (line_at (B.Book.meaning book.now) pair.now)) 66 0 (own_column set) ∷ check (has_places (B.Book.meaning book.now) lines) 67 0 1 ∷ []) }
-{
-    check_pair(book, pair, set, lines)?;
-    check_places(book, lines)
+    fn check_places<B: Book>(&self, book: &B) -> Result<(), SettleFault>
+        ensures { let s = self.now.sound in outcome result ≡ verdict (check (has_places (B.Book.meaning book.now) (length (lines_of s.transaction (details_of (records s.body.now))))) 67 0 1 ∷ []) }
+    {
+        let free = book.free();
+        if free.entries < 1 || free.lines < self.lines() {
+            return Err(SettleFault::NoPlaces);
+        }
+        Ok(())
+    }
+
+    // The pair, then the places.
+    pub(crate) fn check_entering<B: Book>(&self, book: &B, pair: &Pair) -> Result<(), SettleFault>
+        ensures { let s = self.now.sound in outcome result ≡ verdict (own_pair_checks s.transaction (details_of (records s.body.now)) (at (B.Book.meaning book.now) pair.now) ++ place_checks (B.Book.meaning book.now) s.transaction (details_of (records s.body.now)) (Some pair.now)) }
+    {
+        self.check_pair(book, pair)?;
+        self.check_places(book)
+    }
 }

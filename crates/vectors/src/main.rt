@@ -3,7 +3,6 @@
 
 use anyhow::Context;
 use first_look::first_look;
-use octets::class::is_same;
 use std::fs;
 
 // What a buffer holds before the call: what is behind the packet must stay.
@@ -20,7 +19,7 @@ struct Texts {
 }
 
 // What was compared, and what disagreed.
-#[derive(Clone, Copy)]
+#[derive(Clone, Copy, Default, PartialEq, Eq, Debug)]
 struct Totals {
     files: u64,
     refused: u64,
@@ -28,63 +27,34 @@ struct Totals {
     disagree: u64,
 }
 
-// A line of the expected answers: the packet is in hexadecimal, or `-` for a refused file.
-#[derive(Clone, Copy)]
-struct Expected<'a> {
+// A line of the expected answers: a refused file has no packet.
+#[derive(Drop)]
+struct Expected {
     day: u32,
     room: usize,
+    // One number, a length or a code: the vectors write what a caller in C gets, and that call is tried here.
     answer: u64,
-    packet: &'a [u8],
+    packet: Option<Vec<u8>>,
 }
 
-fn hex_digit(b: u8) -> u8 {
-    match b {
-        b'0'..=b'9' => b - b'0',
-        b'a'..=b'f' => b - b'a' + 10,
-        _ => 255,
-    }
-}
-
-// Whether a byte is the one that two hexadecimal digits write.
-fn is_byte(byte: u8, high: u8, low: u8) -> bool {
-    hex_digit(high) == byte / 16 && hex_digit(low) == byte % 16
-}
-
-// Whether bytes are those that the digits write, all of them.
-fn is_hex(bytes: &[u8], hex: &[u8]) -> bool {
-    let mut same = hex.len() / 2 == bytes.len() && hex.len() % 2 == 0;
-    for (byte, pair) in bytes.iter().zip(hex.chunks(2)) {
-        same = same && pair.len() == 2 && is_byte(*byte, pair[0], pair[1]);
-    }
-    same
-}
-
-// Whether no byte was written behind the packet.
-fn is_untouched(bytes: &[u8]) -> bool {
-    let mut same = true;
-    for byte in bytes {
-        same = same && *byte == FILL;
-    }
-    same
+// Whether the buffer has the packet in front, and behind it no byte was written.
+fn is_packet(buffer: &[u8], packet: &[u8]) -> bool {
+    buffer
+        .strip_prefix(packet)
+        .is_some_and(|rest| rest.iter().all(|byte| *byte == FILL))
 }
 
 // Whether the number and the buffer are the expected ones.
-fn agrees(answer: u64, buffer: &[u8], expected: &Expected<'_>) -> bool {
-    if answer != expected.answer {
-        return false;
-    }
-    if is_same(expected.packet, b"-") {
-        return is_untouched(buffer);
-    }
-    let n = expected.packet.len() / 2;
-    n <= buffer.len() && is_hex(&buffer[0..n], expected.packet) && is_untouched(&buffer[n..])
+fn agrees(answer: u64, buffer: &[u8], expected: &Expected) -> bool {
+    let packet = expected.packet.as_deref().unwrap_or(&[]);
+    answer == expected.answer && is_packet(buffer, packet)
 }
 
 fn run_file(
     rt: &HostRuntime,
     file: &[u8],
     texts: &Texts,
-    expected: &Expected<'_>,
+    expected: &Expected,
     totals: &mut Totals,
 ) -> anyhow::Result<()> {
     let heap = rt.alloc();
@@ -111,6 +81,14 @@ fn run_file(
     Ok(())
 }
 
+// The bytes that hexadecimal digits write; `-` stands for none.
+fn packet_of(rt: &HostRuntime, word: &str) -> anyhow::Result<Option<Vec<u8>>> {
+    if word == "-" {
+        return Ok(None);
+    }
+    Ok(Some(hex::decode(rt.alloc(), word)?))
+}
+
 fn run_line(
     rt: &HostRuntime,
     line: &str,
@@ -129,7 +107,7 @@ fn run_line(
         day: day.parse::<u32>()?,
         room: room.parse::<usize>()?,
         answer: answer.parse::<u64>()?,
-        packet: packet.as_bytes(),
+        packet: packet_of(rt, packet)?,
     };
     run_file(rt, &file, texts, &expected, totals)
 }
@@ -146,20 +124,17 @@ fn read_texts(rt: &HostRuntime) -> anyhow::Result<Texts> {
 
 fn main(rt: HostRuntime) -> anyhow::Result<()> {
     let texts = read_texts(&rt)?;
-    let mut totals = Totals {
-        files: 0,
-        refused: 0,
-        bytes: 0,
-        disagree: 0,
-    };
+    let mut totals = Totals::default();
     let lines = fs::read_to_string(&rt, "expected.txt")?;
     for line in lines.as_str().lines() {
         run_line(&rt, line, &texts, &mut totals)?;
     }
-    let files = totals.files;
-    let refused = totals.refused;
-    let bytes = totals.bytes;
-    let disagree = totals.disagree;
+    let Totals {
+        files,
+        refused,
+        bytes,
+        disagree,
+    } = totals;
     println!(rt; "{files} files, {refused} refused with a file code")?;
     println!(rt; "{bytes} bytes of packets")?;
     println!(rt; "{disagree} files disagree with the vectors")?;

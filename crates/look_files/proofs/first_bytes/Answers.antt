@@ -1,6 +1,6 @@
-use Rattle.std.proofs.Common.{sym, arith}
-use Rattle.std.proofs.lemmas.List.{take_all}
+use Rattle.std.proofs.Common.{take, ap, ◌∙◌}
+use Rattle.std.proofs.lemmas.List.{take_min}
 use Rattle.look_files.proofs.first_bytes.Goals as goal
 
-pub returns-then-text-le-LIMIT : goal.returns-then-text-le-LIMIT
-returns-then-text-le-LIMIT c = sym (take_all 65536 c.args.text.now (omega arith))
+pub returns : goal.returns
+returns c = ap (λ n. take n c.args.text.now) c.min.ensures ∙ take_min 65536 c.args.text.now

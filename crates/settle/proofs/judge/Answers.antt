@@ -3,21 +3,16 @@ use Rattle.file.specs.Records.{records}
 use Rattle.transaction.proofs.Passes.{first_counts}
 use Rattle.transaction.specs.Verdicts.{Counts}
 use Rattle.promises.specs.Judging.{all_checks}
-use Rattle.settle.proofs.Judging.{relied, judged_sound, judged_fault}
+use Rattle.settle.proofs.Judging.{judged_sound, judged_fault}
 use Rattle.settle.proofs.judge.Goals as goal
-
-pub check_against-requires : goal.check_against-requires
-check_against-requires g c =
-    let s = c.in-Ok.sound in
-    relied (g.R.Registers.holds c.args.registers.now) (records c.args.text.now) s.transaction s.details s.body.now c.in-Ok.ensures.verdict c.in-Ok.ensures.reading
 
 pub returns-in-Ok : goal.returns-in-Ok
 returns-in-Ok g c =
-    let s = c.in-Ok.sound in
+    let s = c.in-Ok.candidate.sound in
     let holds = g.R.Registers.holds c.args.registers.now in
     let b = g.B.Book.meaning c.args.book.now in
     let rs = records c.args.text.now in
-    let v = judged_sound holds rs s.transaction s.details s.body.now c.in-Ok.ensures.verdict c.in-Ok.ensures.reading b c.args.day c.verdict_of.result (c.verdict_of.ensures ∙ c.check_against.ensures) in
+    let v = judged_sound holds rs s.transaction s.details s.body.now c.in-Ok.ensures.verdict c.in-Ok.ensures.reading b c.args.day c.verdict_of.result (c.verdict_of.ensures ∙ c.check.ensures) in
     record { verdict = v; first = subst (Counts (all_checks holds b c.args.day rs)) (sym v) (first_counts (all_checks holds b c.args.day rs)) }
 
 pub returns-in-Err : goal.returns-in-Err

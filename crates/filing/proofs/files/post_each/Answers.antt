@@ -5,7 +5,7 @@ use Rattle.promises.specs.Entering.{verdicts, after}
 use Rattle.promises.specs.Judging.{judge}
 use Rattle.promises.specs.Packets.{verdict_items, accepted_count, packet_length}
 use Rattle.promises.proofs.Replaces.{length_verdicts}
-use Rattle.filing.proofs.Left.{Left, left_first, left_room, left_more, left_none}
+use Rattle.filing.proofs.Left.{Left, left_first, left_more, left_none}
 use Rattle.filing.proofs.files.post_each.Goals as goal
 
 pub loop-text-init : goal.loop-text-init
@@ -24,12 +24,6 @@ loop-text-init g c =
       subst (λ us. Left out 0 0 (verdicts holds b day us) (written out 20 (verdict_items 1 vs)) (accepted_count vs)) (sym same) (left_first out vs room),
       ap (after holds b day) same,
     )
-
-pub add-requires : goal.add-requires
-add-requires g c =
-    let V = verdicts (g.R.Registers.holds c.args.registers.now) (g.B.Book.meaning c.loop-text.book) c.args.handed.now.day in
-    let l = c.loop-text.invariant.2 in
-    record { few = l.few; room = left_room _ _ _ _ _ _ _ _ l (ap V c.in-Some.ensures.steps) }
 
 pub loop-text-preserved : goal.loop-text-preserved
 loop-text-preserved g c =

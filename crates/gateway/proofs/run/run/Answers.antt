@@ -1,16 +1,7 @@
-use Rattle.std.proofs.Common.{◌+◌, [], ◌∷◌, ◌++◌, length, sym, refl, ap, ◌∙◌, subst, arith}
+use Rattle.std.proofs.Common.{◌+◌, [], ◌∷◌, ◌++◌, length, refl, ap, ◌∙◌, arith}
 use Rattle.std.proofs.lemmas.List.{length_push}
-use Rattle.calls.specs.Asked.{replies}
-use Rattle.gateway.proofs.Runs.{Made, made_more, told_cut, told_all}
+use Rattle.gateway.proofs.Runs.{made_more, told_cut, told_all}
 use Rattle.gateway.proofs.run.run.Goals as goal
-
-pub loop-call-init : goal.loop-call-init
-loop-call-init g c =
-    let none = c.new-answers.ensures.items in (
-      omega arith,
-      ap length none,
-      subst (λ vs. Made (g.R.Registers.holds c.args.registers.now) (g.B.Book.meaning c.args.book.now) (g.B.Book.meaning c.args.book.now) [] (replies vs)) (sym none) (record { answers = tt; book = refl }),
-    )
 
 pub returns-then-is_err : goal.returns-then-is_err
 returns-then-is_err g c =
@@ -30,7 +21,5 @@ loop-call-preserved g c =
       made_more _ _ _ _ _ _ _ _ _ _ c.loop-call-test.true c.loop-call.invariant.2 c.in-Ok.ensures e,
     )
 
-pub returns : goal.returns
-returns g c =
-    let k = told_all _ _ _ _ _ _ c.loop-call-test.false c.loop-call.invariant.2 in
-    record { answers = k.answers; book = k.book; promised = k.promised }
+pub returns-clause-promised : goal.returns-clause-promised
+returns-clause-promised g c = (told_all _ _ _ _ _ _ c.loop-call-test.false c.loop-call.invariant.2).promised
