@@ -1,7 +1,8 @@
 -- Where a record ends.
-use Rattle.std.proofs.Common.{◌≡◌, ℕ, zero, suc, ◌+◌, ◌<◌, ◌≤◌, true, false, eqb, leb, [], ◌∷◌, Some, None, Option, unwrap_or, length, get_or, take, drop, sym, ◌∙◌, ⊎_elim, not-suc-le-zero, zero-add, arith}
+use Rattle.std.proofs.Common.{◌≡◌, ℕ, zero, suc, ◌+◌, ◌<◌, ◌≤◌, true, false, eqb, leb, [], ◌∷◌, Some, None, Option, unwrap_or, length, get_or, take, drop, sym, ◌∙◌, ⊎_elim, MatchOption, not-suc-le-zero, zero-add, arith}
 use Rattle.std.proofs.lemmas.List.{at_drop_more, at_drop_all}
 use Rattle.std.proofs.lemmas.Bool.{eq-eqb, eqb-true, cond-true, cond-false, and_parts, leb-true, cases_Bool}
+use Rattle.std.specs.List.{AllWithin, HoldsAt}
 use Rattle.memchr.specs.Find.{IsFirstByte, Nowhere, Passes, is_byte}
 use Rattle.octets.specs.Classes.{Bytes, all, is_printable}
 use Rattle.file.specs.Lengths.{line_len}
@@ -27,6 +28,17 @@ line_found xs (Some k) f =
     omega arith
 line_found xs None f =
     let n : line_len xs ≡ length xs + line_len (drop (length xs) xs) = line_past xs (length xs) (omega arith) f in
+    let z : line_len (drop (length xs) xs) ≡ 0 = at_drop_all line_len xs (length xs) (omega arith) in
+    omega arith
+
+-- the same as a walk has found it
+pub line_walked : (xs : Bytes) (r : Option ℕ) → MatchOption r (AllWithin (λ b. b ≡ 10 → ⊥) xs 0 (length xs)) (λ k. (k < length xs) × HoldsAt (λ b. b ≡ 10) xs k × AllWithin (λ b. b ≡ 10 → ⊥) xs 0 k) → unwrap_or r (length xs) ≡ line_len xs
+line_walked xs (Some k) f =
+    let n : line_len xs ≡ k + line_len (drop k xs) = line_past xs k (omega (arith, f.0)) (λ j l g e. f.2 j 0 l g (eqb-true _ _ e)) in
+    let z : line_len (drop k xs) ≡ 0 = line_stop xs k f.0 (f.1 0) in
+    omega arith
+line_walked xs None f =
+    let n : line_len xs ≡ length xs + line_len (drop (length xs) xs) = line_past xs (length xs) (omega arith) (λ j l g e. f j 0 l g (eqb-true _ _ e)) in
     let z : line_len (drop (length xs) xs) ≡ 0 = at_drop_all line_len xs (length xs) (omega arith) in
     omega arith
 

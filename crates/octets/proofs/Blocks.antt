@@ -1,7 +1,7 @@
 -- A test of each element, part by part.
-use Rattle.std.proofs.Common.{◌≡◌, ℕ, zero, suc, ◌+◌, ◌-◌, ◌*◌, ◌≤◌, Bool, true, false, ◌&&◌, List, [], ◌∷◌, length, take, drop, sym, refl, ap, ◌∙◌, suc-mul, zero-mul, arith}
+use Rattle.std.proofs.Common.{◌≡◌, ℕ, zero, suc, ◌+◌, ◌-◌, ◌*◌, ◌<◌, ◌≤◌, Bool, true, false, ◌&&◌, List, [], ◌∷◌, length, take, drop, sym, refl, ap, ◌∙◌, suc-mul, zero-mul, arith}
 use mathlib.Core.Bool.{and_assoc}
-use Rattle.std.proofs.lemmas.List.{drop-drop, take_rest}
+use Rattle.std.proofs.lemmas.List.{drop-drop, length-drop, take_rest}
 use Rattle.std.proofs.lemmas.Bool.{and_parts, and_right}
 use Rattle.std.specs.List.{list_all}
 use Rattle.std.specs.Simd.{first_chunks}
@@ -39,6 +39,13 @@ back p xs m k h inv =
 -- the last elements, from m on
 pub last_back : (p : ℕ → Bool) (xs : List ℕ) (m k : ℕ) → m ≤ k → all p (drop k xs) ≡ all p xs → all p (take (length xs - m) (drop m xs)) ≡ all p xs
 last_back p xs m k h inv = ap (all p) (take_rest xs m) ∙ back p xs m k h inv
+
+-- the last n elements decide, where fewer than n do that stand behind a and b others
+pub last_decides : (p : ℕ → Bool) (xs rest tail last : List ℕ) (a b n : ℕ) → rest ≡ drop a xs → tail ≡ drop b rest → length tail < n → last ≡ drop (length xs - n) xs → all p xs ≡ all p tail → all p last ≡ all p xs
+last_decides p xs rest tail last a b n first second few same inv =
+    let e : tail ≡ drop (a + b) xs = second ∙ ap (drop b) first ∙ drop-drop b a xs in
+    let l : length tail ≡ length xs - (a + b) = ap length e ∙ length-drop (a + b) xs in
+    ap (all p) same ∙ back p xs (length xs - n) (a + b) (omega arith) (ap (all p) (sym e) ∙ sym inv)
 
 -- a front of k, and the last elements from m on
 pub both_ends : (p : ℕ → Bool) (xs : List ℕ) (k m : ℕ) → m ≤ k → (all p (take k xs) && all p (take (length xs - m) (drop m xs))) ≡ all p xs

@@ -17,6 +17,10 @@ is_digit b = nat_le 48 b && nat_le b 57
 abbrev pub is_printable : ℕ → Bool
 is_printable b = nat_le 32 b && nat_le b 126
 
+-- no line feed
+abbrev pub is_in_line : ℕ → Bool
+is_in_line b = not (b == 10)
+
 -- the test passes at each byte
 abbrev pub all : (ℕ → Bool) → Bytes → Bool
 all p [] = true

@@ -1,7 +1,8 @@
 // Classes of bytes, asked of many bytes at once.
 ghost use Rattle.std.specs.Prelude.{◌≡◌, ℕ, Bool};
 ghost use Rattle.std.specs.List.{list_all};
-ghost use Rattle.octets.specs.Classes.{is_space, is_zero, is_digit, is_printable, all, blank, starts_by_space, type_a};
+ghost use Rattle.std.specs.Str.{bytes_eq};
+ghost use Rattle.octets.specs.Classes.{is_space, is_zero, is_digit, is_printable, is_in_line, all, blank, starts_by_space, type_a};
 
 use crate::line::Line;
 
@@ -53,6 +54,17 @@ impl Class for Printable {
     }
 }
 
+// Whatever stands inside a record: any byte but the line feed.
+pub struct InLine;
+
+impl Class for InLine {
+    ghost test = { is_in_line };
+
+    fn has(b: u8) -> bool {
+        b != b'\n'
+    }
+}
+
 // Whether each byte is of the class. There is no early exit, so that the loop is vectorised.
 pub fn each<C: Class>(bytes: &[u8]) -> bool
     ensures { result ≡ all C.Class.test bytes.now }
@@ -89,13 +101,16 @@ fn each_block<C: Class, const N: usize>(blocks: &[[u8; N]]) -> bool
     )
 }
 
-// Whether each byte is of the class, for fields of any length: blocks of 64 and of 16, and then the few that are left.
+// Whether each byte is of the class, for fields of any length: blocks of 64 and of 16, and then the last 16, of which some are seen again.
 pub fn every<C: Class>(bytes: &[u8]) -> bool
     ensures { result ≡ all C.Class.test bytes.now }
 {
+    let Some(last) = bytes.last_chunk::<16>() else {
+        return few::<C>(bytes);
+    };
     let (blocks, rest) = bytes.as_chunks::<64>();
-    let (parts, last) = rest.as_chunks::<16>();
-    each_block::<C, 64>(blocks) && each_block::<C, 16>(parts) && few::<C>(last)
+    let (parts, _) = rest.as_chunks::<16>();
+    each_block::<C, 64>(blocks) && each_block::<C, 16>(parts) && each::<C>(last)
 }
 
 // Whether the first byte is a space.
@@ -117,4 +132,10 @@ pub fn is_type_a(bytes: &[u8]) -> bool
     ensures { result ≡ type_a bytes.now }
 {
     Line::of(bytes).is_type_a()
+}
+
+pub fn is_same(a: &[u8], b: &[u8]) -> bool
+    ensures { result ≡ bytes_eq a.now b.now }
+{
+    a == b
 }

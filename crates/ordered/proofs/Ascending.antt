@@ -1,7 +1,8 @@
 -- What a search in records in ascending order rests on.
 -- Assumes nothing.
-use Rattle.std.proofs.Common.{◌≡◌, ℕ, zero, suc, ◌<◌, ◌≤◌, true, cond, ◌&&◌, List, [], ◌∷◌, length, get_or, set, is_some, Some, None, Ordering, Less, Equal, Greater, sym, refl, ap, ◌∙◌, subst, true≢false, arith}
-use Rattle.std.proofs.lemmas.Bool.{eqb-true, and_parts, and_from}
+use Rattle.std.proofs.Common.{◌≡◌, ℕ, zero, suc, ◌+◌, ◌<◌, ◌≤◌, true, cond, ◌&&◌, ◌⊎◌, List, [], ◌∷◌, length, get_or, set, is_some, Some, None, Ordering, Less, Equal, Greater, sym, refl, ap, ◌∙◌, subst, inl, inr, ⊎_elim, true≢false, arith}
+use Rattle.std.proofs.lemmas.Bool.{cases_lt, eqb-true, and_parts, and_from}
+use Rattle.std.proofs.lemmas.List.{get_or_read}
 use Rattle.std.specs.Cmp.{IsTotalOrder, unsigned_tied, nat_cmp_total}
 use Rattle.std.proofs.lemmas.Cmp.{alike_right}
 use Rattle.std.specs.Ordering.{is_lt, is_eq, is_gt, ordering_reverse, ordering_then, nat_cmp}
@@ -25,6 +26,11 @@ same_bytes (x ∷ xs) (y ∷ ys) h = first_two x y xs ys (nat_cmp x y) refl h (s
 
 pub bytewise : TotalOrder ranks
 bytewise = record { chain = (lists_total nat_cmp_total).trans; turn = (lists_total nat_cmp_total).antisymm; same = same_bytes }
+
+-- what the comparison with the record at m says
+pub told : {X : Type 0} (key : X → List ℕ) (xs : List X) (m : ℕ) (x : X) (b k : List ℕ) (r o : Ordering) → m < length xs → x ≡ get_or xs m x → b ≡ key x → r ≡ ranks b k → r ≡ o → (d : X) → ranks (key (get_or xs m d)) k ≡ o
+told key xs m x b k r o l e q h p d =
+    ap (λ y. ranks (key y) k) (sym (get_or_read xs m x l e d)) ∙ (ap (λ y. ranks y k) (sym q) ∙ (sym h ∙ p))
 
 pub is_equal : (o : Ordering) → is_eq o ≡ true → o ≡ Equal
 is_equal Less h = absurd (true≢false (sym h))
@@ -79,6 +85,27 @@ module _ {K : Type 0} (rank : K → K → Ordering) (total : TotalOrder rank) wh
 
     abbrev pub High : K → List X → ℕ → Type 0
     High k xs n = (i : ℕ) (d : X) → n ≤ i → i < length xs → rank (key (get_or xs i d)) k ≡ Greater
+
+    low_by : (k : K) (xs : List X) (m i : ℕ) (d : X) → ascends rank key xs ≡ true → m < length xs → rank (key (get_or xs m d)) k ≡ Less → (i < m) ⊎ (i ≡ m) → rank (key (get_or xs i d)) k ≡ Less
+    low_by k xs m i d h b e (inl l) = total.chain (key (get_or xs i d)) (key (get_or xs m d)) k (far xs h i m d l b) e
+    low_by k xs m i d h b e (inr p) = ap (λ n. rank (key (get_or xs n d)) k) p ∙ e
+
+    high_by : (k : K) (xs : List X) (m i : ℕ) (d : X) → ascends rank key xs ≡ true → i < length xs → rank (key (get_or xs m d)) k ≡ Greater → (m < i) ⊎ (i ≡ m) → rank (key (get_or xs i d)) k ≡ Greater
+    high_by k xs m i d h b e (inl l) =
+        turn_less k (key (get_or xs i d)) (total.chain k (key (get_or xs m d)) (key (get_or xs i d)) (turn_greater (key (get_or xs m d)) k e) (far xs h m i d l b))
+    high_by k xs m i d h b e (inr p) = ap (λ n. rank (key (get_or xs n d)) k) p ∙ e
+
+    split_under : (i m : ℕ) → i < m + 1 → (i < m) ⊎ (i ≡ m)
+    split_under i m h = ⊎_elim inl (λ n. inr (omega arith)) (cases_lt i m)
+
+    split_over : (i m : ℕ) → m ≤ i → (m < i) ⊎ (i ≡ m)
+    split_over i m h = ⊎_elim inl (λ n. inr (omega arith)) (cases_lt m i)
+
+    pub low_more : (k : K) (xs : List X) (m : ℕ) → ascends rank key xs ≡ true → m < length xs → ((d : X) → rank (key (get_or xs m d)) k ≡ Less) → Low k xs (m + 1)
+    low_more k xs m h b e i d l _ = low_by k xs m i d h b (e d) (split_under i m l)
+
+    pub high_at : (k : K) (xs : List X) (m : ℕ) → ascends rank key xs ≡ true → ((d : X) → rank (key (get_or xs m d)) k ≡ Greater) → High k xs m
+    high_at k xs m h e i d l b = high_by k xs m i d h b (e d) (split_over i m l)
 
     -- ---- a key that is held
 

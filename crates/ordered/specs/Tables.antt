@@ -12,7 +12,7 @@ abbrev pub shown : {X : Type 0} {k : _} → Table X k → List X
 shown t = take t.n t.rows.now
 
 abbrev pub arrived : {X : Type 0} {N : ℕ} {k : _} → Arrivals X N k → List X
-arrived a = a.rows.items
+arrived a = take a.n a.rows
 
 abbrev pub listed : {X : Type 0} {N : ℕ} {k : _} → (X → List ℕ) → Arrivals X N k → List X
 listed key a = sorted ranks key (arrived a)

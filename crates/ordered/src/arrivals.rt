@@ -1,37 +1,53 @@
 // A table of at most N records that it holds in itself, in order of arrival.
-ghost use Rattle.std.specs.Prelude.{◌≡◌, ℕ, ◌+◌, ◌-◌, ◌<◌, ◌≤◌, true, [], length};
+ghost use Rattle.std.specs.Prelude.{◌≡◌, ℕ, ◌+◌, ◌-◌, ◌<◌, ◌≤◌, true, ⊤, [], length, take};
 ghost use Rattle.ordered.specs.Order.{ranks, apart, every};
 
 use super::Keyed;
 use super::keeps::Keeps;
 use super::refusal::Refusal;
-use arrayvec::ArrayVec;
+use std::alloc::AllocError;
 
-// The records, as they came: no two under one key.
-#[derive(Drop)]
+// The records are the first `n` of `rows`, as they came: no two under one key. An array and a count, and no `ArrayVec` of the kit: that is
+// not `Copy`, and asks a default of its rows.
 pub struct Arrivals<T: Keyed, const N: usize> {
-    pub rows: ArrayVec<T, N>,
-    ghost fits: { length rows.items ≤ N },
-    ghost apart: { apart ranks T.Keyed.code rows.items ≡ true },
-    ghost all_sound: { every T.Keyed.sound rows.items ≡ true },
+    pub rows: [T; N],
+    pub n: usize,
+    ghost fits: { n ≤ N },
+    ghost given: { length rows ≡ N },
+    ghost apart: { apart ranks T.Keyed.code (take n rows) ≡ true },
+    ghost all_sound: { every T.Keyed.sound (take n rows) ≡ true },
 }
 
-impl<T: Keyed + Default, const N: usize> Arrivals<T, N> {
+// By hand: neither is derived over ghost fields where the rows are of a type parameter.
+impl<T: Keyed, const N: usize> Clone for Arrivals<T, N> {
+    ghost is_clone = { λ x y. y ≡ x };
+
+    ghost is_infallible = { λ _. ⊤ };
+
+    fn clone(&self) -> Result<Arrivals<T, N>, AllocError> {
+        Ok(*self)
+    }
+}
+
+impl<T: Keyed, const N: usize> Copy for Arrivals<T, N> {}
+
+impl<T: Keyed, const N: usize> Arrivals<T, N> {
     ghost use Rattle.ordered.specs.Tables.{arrived};
 
-    // An empty table. The rows have a default, which fills the places that are not used.
-    pub fn new() -> Arrivals<T, N>
-        ensures { arrived result ≡ [] }
+    // An empty table; `row` fills the places.
+    pub fn new(row: T) -> Arrivals<T, N>
+        ensures none { arrived result ≡ [] }
     {
         Arrivals {
-            rows: ArrayVec::new(),
+            rows: [row; N],
+            n: 0,
         }
     }
 }
 
 impl<T: Keyed, const N: usize> Keeps<T> for Arrivals<T, N> {
+    ghost use Rattle.std.proofs.Common.{refl, length-take-le, arith};
     ghost use Rattle.ordered.specs.Tables.{arrived, listed};
-    ghost use Rattle.std.specs.Prelude.{refl};
 
     ghost rows = { arrived };
 
@@ -40,26 +56,27 @@ impl<T: Keyed, const N: usize> Keeps<T> for Arrivals<T, N> {
     ghost places = { λ _. N };
 
     fn records(&self) -> &[T] {
-        &self.rows
+        &self.rows[..self.n]
     }
 
     fn position(&self, key: &[u8]) -> Option<usize> {
-        self.rows.iter().position(|row| row.key() == key)
+        self.records().iter().position(|row| row.key() == key)
     }
 
     fn free(&self) -> usize {
-        self.rows.remaining_capacity()
+        N - self.n
     }
 
     fn add(&mut self, row: T) -> Result<(), Refusal> {
         // Not by `admits`: a call of it leads back to this impl, and such a cycle is not covered by the check.
         match self.position(row.key()) {
             Some(_) => Err(Refusal::Held),
-            None if self.rows.is_full() => Err(Refusal::Full),
-            None => {
-                self.rows.push(row);
+            None if self.n < N => {
+                self.rows[self.n] = row;
+                self.n += 1;
                 Ok(())
             }
+            None => Err(Refusal::Full),
         }
     }
 
@@ -73,5 +90,5 @@ impl<T: Keyed, const N: usize> Keeps<T> for Arrivals<T, N> {
 
     ghost all_sound = { λ t. t.all_sound };
 
-    ghost fits = { λ t. t.fits };
+    ghost fits = { λ t. Prim.omega (arith, length-take-le t.n t.rows (Prim.omega (arith, t.fits, t.given)), t.fits) };
 }

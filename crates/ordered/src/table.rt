@@ -6,6 +6,7 @@ ghost use Rattle.ordered.specs.Order.{ranks, ascends, every, shifted_in, Found};
 use super::Keyed;
 use super::keeps::Keeps;
 use super::refusal::Refusal;
+use std::cmp::Ordering;
 
 // The memory is the caller's and fixed: `rows` is all that it lends, whose first `places` may be used, and whose
 // first `n` are the records. So the lengths stand beside the rows, and no vector grows.
@@ -18,6 +19,25 @@ pub struct Table<'a, T: Keyed> {
     ghost given: { places ≤ length rows.now },
     ghost in_order: { ascends ranks T.Keyed.code (take n rows.now) ≡ true },
     ghost all_sound: { every T.Keyed.sound (take n rows.now) ≡ true },
+}
+
+// Where the record with this key stands in records in the order of their keys, or where it would go. By hand, since it ends where the
+// record is met: the library's search goes on to the last comparison.
+fn find<T: Keyed>(rows: &[T], key: &[u8]) -> Result<usize, usize>
+    requires { ascends ranks T.Keyed.code rows.now ≡ true }
+    ensures { Found ranks T.Keyed.code key.now rows.now result }
+{
+    let mut low = 0;
+    let mut high = rows.len();
+    while low < high {
+        let mid = low + (high - low) / 2;
+        match rows[mid].key().cmp(&key) {
+            Ordering::Less => low = mid + 1,
+            Ordering::Greater => high = mid,
+            Ordering::Equal => return Ok(mid),
+        }
+    }
+    Err(low)
 }
 
 // Puts a record in at `at`, and moves those from there on up by one, as one block; the first `n` slots are used before.
@@ -46,7 +66,7 @@ impl<'a, T: Keyed> Table<'a, T> {
     pub fn seek(&self, key: &[u8]) -> Result<usize, usize>
         ensures { Found ranks T.Keyed.code key.now (shown self.now) result }
     {
-        self.records().binary_search_by(|row| row.key().cmp(&key))
+        find(self.records(), key)
     }
 
     fn put_in(&mut self, at: usize, row: T)

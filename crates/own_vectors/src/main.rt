@@ -12,13 +12,15 @@ use transaction::sound::read;
 use transaction::verdict::Verdict;
 
 // Answers below this number are the opening's codes.
-const OPENING: u64 = 6;
+const OPENING: u16 = 6;
 
 // The codes from here on are the book's.
 const BOOK: u16 = 60;
 
-// How long the item of the file is, which a packet begins with.
-const HEADER: usize = 20;
+// How many digits the item of the file has, which a packet begins with, and each other item.
+const HEADER: usize = 2 * 20;
+
+const ITEM: usize = 2 * 16;
 
 // What was compared, and what disagreed.
 #[derive(Clone, Copy, Default, PartialEq, Eq, Debug)]
@@ -30,12 +32,12 @@ struct Totals {
     disagree: u64,
 }
 
-// What the vectors have for a file: the call's answer, and the packet, which a refused file has not.
-#[derive(Drop)]
-struct Expected {
-    // One number, a length or a code, as the stored answers have it.
-    answer: u64,
-    packet: Option<Vec<u8>>,
+// What the vectors have for a file: the call's answer, and the digits of the packet, which a refused file has not.
+#[derive(Clone, Copy, PartialEq, Eq, Debug)]
+struct Expected<'a> {
+    // One number, a length or a code, as the stored answers have it; 0 where no number of 16 bits stands there.
+    answer: u16,
+    packet: Option<&'a [u8]>,
 }
 
 // One more in the total where it counts. At the largest number it would stay, which no folder of vectors reaches.
@@ -43,11 +45,33 @@ fn count_if(total: &mut u64, counts: bool) {
     *total = total.saturating_add(u64::from(counts));
 }
 
+// What is no digit, and no small letter, counts as 0: so a folder with a bad digit is counted, and not refused as a whole.
+fn hex_digit(b: &u8) -> u8 {
+    match *b {
+        b'0'..=b'9' => *b - b'0',
+        b'a'..=b'f' => *b - b'a' + 10,
+        _ => 0,
+    }
+}
+
+// The byte at a place of an item in hexadecimal. A digit that is missing counts as 0 too.
+fn byte_at(item: &[u8], at: usize) -> u8 {
+    let digits = item.chunks(2).nth(at).unwrap_or(&[]);
+    let high = digits.first().map_or(0, hex_digit);
+    let low = digits.get(1).map_or(0, hex_digit);
+    high.saturating_mul(16).saturating_add(low)
+}
+
 // The verdict in an item of a packet, where it is not the book's.
-fn verdict_in(item: &[u8; 16]) -> Verdict {
-    let code = u16::from_le_bytes([item[8], item[9]]);
-    let number = u32::from_le_bytes([item[10], item[11], item[12], item[13]]);
-    let column = u16::from_le_bytes([item[14], item[15]]);
+fn verdict_in(item: &[u8]) -> Verdict {
+    let code = u16::from_le_bytes([byte_at(item, 8), byte_at(item, 9)]);
+    let number = u32::from_le_bytes([
+        byte_at(item, 10),
+        byte_at(item, 11),
+        byte_at(item, 12),
+        byte_at(item, 13),
+    ]);
+    let column = u16::from_le_bytes([byte_at(item, 14), byte_at(item, 15)]);
     if code == 0 || code >= BOOK {
         return Verdict::Accepted;
     }
@@ -62,31 +86,35 @@ fn own_verdict<R: Registers>(text: &[u8], registers: &R) -> Verdict {
 }
 
 fn run_transactions<R: Registers>(bulk: &[u8], packet: &[u8], registers: &R, totals: &mut Totals) {
-    let items = packet.get(HEADER..).unwrap_or(&[]);
-    let mut verdicts = items.as_chunks::<16>().0.iter().map(verdict_in);
+    let mut items = packet.get(HEADER..).unwrap_or(&[]);
     for text in Transactions::of(body(bulk)) {
         let verdict = own_verdict(text, registers);
         count_if(&mut totals.transactions, true);
         count_if(&mut totals.refused, verdict != Verdict::Accepted);
-        count_if(&mut totals.disagree, verdicts.next() != Some(verdict));
+        let (item, others) = items.split_at(items.len().min(ITEM));
+        items = others;
+        let expected = verdict_in(item);
+        count_if(&mut totals.disagree, verdict != expected);
     }
 }
 
-fn run_file<R: Registers>(bulk: &[u8], expected: &Expected, registers: &R, totals: &mut Totals) {
+fn run_file<R: Registers>(
+    bulk: &[u8],
+    expected: &Expected<'_>,
+    registers: &R,
+    totals: &mut Totals,
+) {
     count_if(&mut totals.files, true);
     match Opening::of(bulk) {
         Ok(_) => {
             count_if(&mut totals.disagree, expected.answer < OPENING);
-            if let Some(packet) = &expected.packet {
+            if let Some(packet) = expected.packet {
                 run_transactions(bulk, packet, registers, totals);
             }
         }
         Err(fault) => {
             count_if(&mut totals.refused_files, true);
-            count_if(
-                &mut totals.disagree,
-                expected.answer != u64::from(fault.code()),
-            );
+            count_if(&mut totals.disagree, expected.answer != fault.code());
         }
     }
 }
@@ -101,14 +129,15 @@ fn run_line<R: Registers>(
     let name = words.next().context("no name")?;
     let _day = words.next();
     let _room = words.next();
-    let answer = words.next().context("no answer")?.parse::<u64>()?;
-    let packet = match words.next().context("no packet")? {
-        "-" => None,
-        digits => Some(hex::decode(rt.alloc(), digits)?),
-    };
+    let answer = words.next().context("no answer")?;
+    let packet = words.next().context("no packet")?.as_bytes();
     let path = format!(in rt.alloc(); "files/{name}")?;
     let bulk = fs::read(rt, path.as_str())?;
-    run_file(&bulk, &Expected { answer, packet }, registers, totals);
+    let expected = Expected {
+        answer: answer.parse::<u16>().unwrap_or(0),
+        packet: Some(packet).filter(|digits| *digits != b"-".as_slice()),
+    };
+    run_file(&bulk, &expected, registers, totals);
     Ok(())
 }
 

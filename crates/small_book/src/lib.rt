@@ -33,9 +33,9 @@ impl SmallBook {
     {
         SmallBook {
             tables: Tables {
-                entries: Arrivals::new(),
-                lines: Arrivals::new(),
-                marks: Arrivals::new(),
+                entries: Arrivals::new(EntryRow::unused()),
+                lines: Arrivals::new(LineRow::unused()),
+                marks: Arrivals::new(MarkRow::unused()),
             },
         }
     }

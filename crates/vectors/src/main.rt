@@ -27,34 +27,52 @@ struct Totals {
     disagree: u64,
 }
 
-// A line of the expected answers: a refused file has no packet.
-#[derive(Drop)]
-struct Expected {
+// A line of the expected answers.
+#[derive(Clone, Copy, PartialEq, Eq, Debug)]
+struct Expected<'a> {
     day: u32,
     room: usize,
     // One number, a length or a code: the vectors write what a caller in C gets, and that call is tried here.
     answer: u64,
-    packet: Option<Vec<u8>>,
+    // The packet in hexadecimal, in small letters; none for a refused file.
+    packet: Option<&'a str>,
 }
 
-// Whether the buffer has the packet in front, and behind it no byte was written.
-fn is_packet(buffer: &[u8], packet: &[u8]) -> bool {
-    buffer
-        .strip_prefix(packet)
-        .is_some_and(|rest| rest.iter().all(|byte| *byte == FILL))
+// Whether no byte was written behind the packet.
+fn is_untouched(bytes: &[u8]) -> bool {
+    bytes.iter().all(|byte| *byte == FILL)
+}
+
+// Whether a byte is the one that two hexadecimal digits write, in small letters.
+fn is_written(byte: u8, digits: &[u8]) -> bool {
+    let mut written = [0; 2];
+    hex::encode_to_slice([byte], &mut written).is_ok() && digits == written.as_slice()
+}
+
+// Whether bytes are those that the digits write, all of them. The bytes are written out, and not the digits read: what is no packet in
+// hexadecimal only disagrees.
+fn is_hex(bytes: &[u8], digits: &[u8]) -> bool {
+    digits.len() % 2 == 0
+        && bytes
+            .iter()
+            .zip(digits.chunks(2))
+            .all(|(byte, pair)| is_written(*byte, pair))
 }
 
 // Whether the number and the buffer are the expected ones.
-fn agrees(answer: u64, buffer: &[u8], expected: &Expected) -> bool {
-    let packet = expected.packet.as_deref().unwrap_or(&[]);
-    answer == expected.answer && is_packet(buffer, packet)
+fn agrees(answer: u64, buffer: &[u8], expected: &Expected<'_>) -> bool {
+    let digits = expected.packet.unwrap_or("").as_bytes();
+    let Some((packet, rest)) = buffer.split_at_checked(digits.len() / 2) else {
+        return false;
+    };
+    answer == expected.answer && is_hex(packet, digits) && is_untouched(rest)
 }
 
 fn run_file(
     rt: &HostRuntime,
     file: &[u8],
     texts: &Texts,
-    expected: &Expected,
+    expected: &Expected<'_>,
     totals: &mut Totals,
 ) -> anyhow::Result<()> {
     let heap = rt.alloc();
@@ -81,14 +99,6 @@ fn run_file(
     Ok(())
 }
 
-// The bytes that hexadecimal digits write; `-` stands for none.
-fn packet_of(rt: &HostRuntime, word: &str) -> anyhow::Result<Option<Vec<u8>>> {
-    if word == "-" {
-        return Ok(None);
-    }
-    Ok(Some(hex::decode(rt.alloc(), word)?))
-}
-
 fn run_line(
     rt: &HostRuntime,
     line: &str,
@@ -107,7 +117,7 @@ fn run_line(
         day: day.parse::<u32>()?,
         room: room.parse::<usize>()?,
         answer: answer.parse::<u64>()?,
-        packet: packet_of(rt, packet)?,
+        packet: Some(packet).filter(|word| *word != "-"),
     };
     run_file(rt, &file, texts, &expected, totals)
 }
