@@ -26,17 +26,24 @@ pub struct SmallBook {
     tables: Tables<Arrivals<EntryRow, 64>, Arrivals<LineRow, 512>, Arrivals<MarkRow, 16>>,
 }
 
+// Three tables that hold nothing. A function of its own: written out in `new`, the compiler makes the book beside its place and copies it there.
+fn new_tables() -> Tables<Arrivals<EntryRow, 64>, Arrivals<LineRow, 512>, Arrivals<MarkRow, 16>>
+    ensures { small_means result ≡ empty_book 64 512 16 }
+{
+    Tables {
+        entries: Arrivals::new(EntryRow::unused()),
+        lines: Arrivals::new(LineRow::unused()),
+        marks: Arrivals::new(MarkRow::unused()),
+    }
+}
+
 impl SmallBook {
     // A book that holds nothing, with 64 entry places, 512 line places and 16 mark places.
     pub fn new() -> SmallBook
         ensures { small_means result.tables ≡ empty_book 64 512 16 }
     {
         SmallBook {
-            tables: Tables {
-                entries: Arrivals::new(EntryRow::unused()),
-                lines: Arrivals::new(LineRow::unused()),
-                marks: Arrivals::new(MarkRow::unused()),
-            },
+            tables: new_tables(),
         }
     }
 }
